@@ -1,0 +1,15 @@
+// What a home is: rows with leases, the calls on them, and why a call is refused.
+mod fault;
+mod home;
+mod row;
+
+pub use fault::Fault;
+pub use fault::FaultDebug;
+pub use fault::FaultPartialEq;
+pub use fault::Layer;
+pub use fault::Refusal;
+pub use home::Home;
+pub use row::Cause;
+pub use row::Change;
+pub use row::Lease;
+pub use row::Row;

@@ -1,0 +1,30 @@
+ghost use Rattle.kinds.specs.Words.{price-word, price-value};
+use crate::kind::Kind;
+
+// A price: a signed count of ticks.
+#[derive(Clone, Copy, PartialEq, Eq, Debug)]
+pub struct Price {
+    pub ticks: i64,
+}
+
+pub impl Kind for Price as PriceKind {
+    const CODE: u8 = 1;
+
+    ghost number = { 1 };
+
+    ghost packed = { price-word };
+
+    ghost unpacked = { price-value };
+
+    fn kind_code() -> u8 {
+        Self::CODE
+    }
+
+    fn pack(self) -> u64 {
+        self.ticks.cast_unsigned()
+    }
+
+    fn unpack(word: u64) -> Option<Price> {
+        Some(Price { ticks: word.cast_signed() })
+    }
+}

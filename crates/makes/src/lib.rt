@@ -1,0 +1,4 @@
+// The three makes of home: over a table of rows, over bytes, and over two homes side by side.
+mod row_home;
+
+pub use row_home::RowHome;
