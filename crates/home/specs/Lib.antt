@@ -2,3 +2,4 @@ pub mod Refusals
 pub mod Rows
 pub mod Meaning
 pub mod Memory
+pub mod Opening

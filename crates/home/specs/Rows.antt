@@ -45,8 +45,8 @@ abbrev pub hold-row : {V : Type 0} → ℕ → ℕ → Row V → Outcome V
 hold-row last place row =
     cond (eqb (row .holder) 0)
     (cond (eqb (row .rts) last)
-     (because TimeSpent 0)
-     (grants (record { value = row .value; wts = row .wts; rts = row .rts; holder = place })))
+    (because TimeSpent 0)
+    (grants (record { value = row .value; wts = row .wts; rts = row .rts; holder = place })))
     (because Held (row .holder))
 
 -- The end of a lease that has to reach t: where it falls short it becomes wish.
@@ -60,10 +60,10 @@ renew-row last wts t wish row =
     cond (ltb wish t || ltb last wish)
     (because TimeSpent 0)
     (cond (eqb (row .wts) wts)
-     (cond (eqb (row .holder) 0)
-      (grants (record { value = row .value; wts = row .wts; rts = reaching t wish (row .rts); holder = row .holder }))
-      (because Held (row .holder)))
-     (because MovedOn (row .wts)))
+    (cond (eqb (row .holder) 0)
+    (grants (record { value = row .value; wts = row .wts; rts = reaching t wish (row .rts); holder = row .holder }))
+    (because Held (row .holder)))
+    (because MovedOn (row .wts)))
 
 -- 6 if the place is not the holder; 3 if t is past the last timestamp; 7 if t is within the lease;
 -- otherwise the value stands from t to t and the hold ends.
@@ -71,10 +71,10 @@ abbrev pub put-row : {V : Type 0} → ℕ → ℕ → V → ℕ → Row V → Ou
 put-row last place value t row =
     cond (eqb (row .holder) place)
     (cond (leb t last)
-     (cond (leb t (row .rts))
-      (because TooEarly 0)
-      (grants (record { value = value; wts = t; rts = t; holder = 0 })))
-     (because TimeSpent 0))
+    (cond (leb t (row .rts))
+    (because TooEarly 0)
+    (grants (record { value = value; wts = t; rts = t; holder = 0 })))
+    (because TimeSpent 0))
     (because NotYours 0)
 
 -- 6 if the place is not the holder; otherwise the hold ends.

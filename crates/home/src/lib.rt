@@ -11,5 +11,6 @@ pub use fault::Refusal;
 pub use home::Home;
 pub use row::Cause;
 pub use row::Change;
+pub use row::Flaw;
 pub use row::Lease;
 pub use row::Row;

@@ -1,6 +1,7 @@
 // A row, and what each change does to the one row that it is about.
 ghost use mathlib.Core.Path.{_≡_};
 ghost use Rattle.home.specs.Meaning.{checked-place, fault-at, place-of};
+ghost use Rattle.home.specs.Opening.{bad-row, row-flaw};
 ghost use Rattle.home.specs.Rows.{amended, answer-of, free-row, hold-row, lease-of, put-row, renew-row, result-of, row-after};
 use crate::fault::Fault;
 use crate::fault::Layer;
@@ -30,6 +31,32 @@ pub struct Lease {
 pub struct Cause {
     pub refusal: Refusal,
     pub detail: u64,
+}
+
+// What is bad of a row that a home cannot be made of; the number is the fault's detail.
+#[derive(Clone, Copy, PartialEq, Eq, Debug)]
+pub enum Flaw {
+    // Not wts ≤ rts ≤ the last timestamp.
+    Lease = 1,
+    // A holder past 64.
+    Holder = 2,
+    // A word that is no value of the kind.
+    Word = 3,
+}
+
+impl Flaw {
+    // The fault of an opening that finds this flaw first, at this key.
+    pub fn at(self, key: u32) -> Fault
+        ensures { λ r. ⌜ r ≡ bad-row key self ⌝ }
+    {
+        Fault {
+            refusal: Refusal::BadRow,
+            layer: Layer::Home,
+            place: 0,
+            key,
+            detail: self as u64,
+        }
+    }
 }
 
 // The four calls of a home that can alter a row.
@@ -64,10 +91,11 @@ impl<V: Copy> Change<V> {
     {
         match *self {
             Change::Renew { .. } => Ok(()),
-            Change::Hold { place } | Change::Put { place, .. } | Change::Free { place } => match place {
-                1..=64 => Ok(()),
-                _ => Err(Cause::plain(Refusal::NoPlace)),
-            },
+            Change::Hold { place } | Change::Put { place, .. } | Change::Free { place } =>
+                match place {
+                    1..=64 => Ok(()),
+                    _ => Err(Cause::plain(Refusal::NoPlace)),
+                },
         }
     }
 }
@@ -84,7 +112,13 @@ impl Cause {
     pub fn at(self, place: u32, key: u32) -> Fault
         ensures { λ r. ⌜ r ≡ fault-at place key self ⌝ }
     {
-        Fault { refusal: self.refusal, layer: Layer::Home, place, key, detail: self.detail }
+        Fault {
+            refusal: self.refusal,
+            layer: Layer::Home,
+            place,
+            key,
+            detail: self.detail,
+        }
     }
 }
 
@@ -93,7 +127,23 @@ impl<V: Copy> Row<V> {
     pub fn lease(&self) -> Lease
         ensures { λ r. ⌜ r ≡ lease-of (now (self .entry)) ⌝ }
     {
-        Lease { wts: self.wts, rts: self.rts }
+        Lease {
+            wts: self.wts,
+            rts: self.rts,
+        }
+    }
+
+    // What is bad of the row in a home with this last timestamp, the lease before the holder.
+    pub fn flaw(&self, last: u64) -> Option<Flaw>
+        ensures { λ r. ⌜ r ≡ row-flaw last (now (self .entry)) ⌝ }
+    {
+        if self.wts > self.rts || self.rts > last {
+            Some(Flaw::Lease)
+        } else if self.holder > 64 {
+            Some(Flaw::Holder)
+        } else {
+            None
+        }
     }
 
     // Makes the change, and answers the lease that then stands. A refusal leaves the row as it was.
@@ -115,7 +165,10 @@ impl<V: Copy> Row<V> {
         ensures row { λ _. ⌜ now (self .exit) ≡ row-after (now (self .entry)) (hold-row last place (now (self .entry))) ⌝ }
     {
         if self.holder != 0 {
-            return Err(Cause { refusal: Refusal::Held, detail: u64::from(self.holder) });
+            return Err(Cause {
+                refusal: Refusal::Held,
+                detail: u64::from(self.holder),
+            });
         }
         if self.rts == last {
             return Err(Cause::plain(Refusal::TimeSpent));
@@ -132,10 +185,16 @@ impl<V: Copy> Row<V> {
             return Err(Cause::plain(Refusal::TimeSpent));
         }
         if self.wts != wts {
-            return Err(Cause { refusal: Refusal::MovedOn, detail: self.wts });
+            return Err(Cause {
+                refusal: Refusal::MovedOn,
+                detail: self.wts,
+            });
         }
         if self.holder != 0 {
-            return Err(Cause { refusal: Refusal::Held, detail: u64::from(self.holder) });
+            return Err(Cause {
+                refusal: Refusal::Held,
+                detail: u64::from(self.holder),
+            });
         }
         if t > self.rts {
             self.rts = wish;
@@ -156,7 +215,12 @@ impl<V: Copy> Row<V> {
         if t <= self.rts {
             return Err(Cause::plain(Refusal::TooEarly));
         }
-        *self = Row { value, wts: t, rts: t, holder: 0 };
+        *self = Row {
+            value,
+            wts: t,
+            rts: t,
+            holder: 0,
+        };
         Ok(())
     }
 

@@ -19,7 +19,10 @@ impl Node {
         ensures { λ r. ⌜ r ≡ node-of day rate ⌝ }
     {
         match day {
-            1..=65_536 => Some(Node { day_less_one: (day - 1) as u16, rate }),
+            1..=65_536 => Some(Node {
+                day_less_one: (day - 1) as u16,
+                rate,
+            }),
             _ => None,
         }
     }

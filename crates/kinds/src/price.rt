@@ -25,6 +25,8 @@ pub impl Kind for Price as PriceKind {
     }
 
     fn unpack(word: u64) -> Option<Price> {
-        Some(Price { ticks: word.cast_signed() })
+        Some(Price {
+            ticks: word.cast_signed(),
+        })
     }
 }

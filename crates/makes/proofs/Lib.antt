@@ -1,1 +1,1 @@
-pub mod RowHomes
+pub mod Tables

@@ -7,6 +7,7 @@ ghost use Rattle.makes.specs.Opening.{table-meaning};
 use home::Row;
 
 mod calls;
+mod making;
 
 pub use calls::RowHomeCalls;
 

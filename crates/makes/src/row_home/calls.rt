@@ -26,7 +26,11 @@ pub impl<'a, V: Copy> Home for RowHome<'a, V> as RowHomeCalls {
     ghost memory = { row-home-memory };
 
     fn count(&self) -> u32 {
-        if self.passed { self.rows.len() as u32 } else { 0 }
+        if self.passed {
+            self.rows.len() as u32
+        } else {
+            0
+        }
     }
 
     fn last(&self) -> u64 {

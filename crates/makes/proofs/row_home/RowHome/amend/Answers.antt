@@ -8,7 +8,7 @@ use Rattle.std.specs.declared.option.Option.the-variants.{Some}
 use Rattle.home.specs.Rows.{amended}
 use Rattle.home.specs.Meaning.{changed, fair, all-fair}
 use Rattle.home.proofs.Calls.{key-refused, made}
-use Rattle.makes.proofs.RowHomes.{in-table, table-after, table-sound}
+use Rattle.makes.proofs.Tables.{in-table, table-after, table-sound}
 use Rattle.makes.specs.RowHomes.{row-home-meaning}
 use Rattle.makes.proofs.row_home.RowHome.amend.Needs as need
 
@@ -26,7 +26,6 @@ returns-in-Break-lease g c =
     let h = made (row-home-meaning (c .args .self .now)) (c .args .key) (c .args .change) _ (sym (c .in-Continue-check-place .ensures tt)) (sym (c .in-Continue-row .ensures tt)) in
     let r = c .in-Break-lease .ensures tt .answer in
     search needs
-
 
 pub store-requires : need.store-requires
 store-requires g c κs =

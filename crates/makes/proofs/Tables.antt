@@ -2,18 +2,29 @@
 use Prim.Native.Nat.{ℕ, _<_}
 use mathlib.Core.Path.{_≡_, refl, ap, sym, _∙_}
 use mathlib.Core.List.{List, []}
-use mathlib.Core.Bool.{Bool, true, false, cond}
+use mathlib.Core.Bool.{Bool, true, false, cond, _&&_}
 use native.Mathlib.Omega.{arith}
+use lib.Dec.{leb}
 use lib.ListN.{length, set}
 use Rattle.std.specs.Finite.{nth}
 use Rattle.std.specs.declared.option.Option.the-variants.{Some}
-use Rattle.std.specs.declared.result.Result.the-variants.{Ok}
+use Rattle.std.specs.Results.{isErr}
+use Rattle.std.specs.declared.result.Result.{Result}
+use Rattle.std.specs.declared.result.Result.the-variants.{Ok, Err}
+use Rattle.home.specs.declared.fault.Fault.{Fault}
+use Rattle.std.proofs.shelf.Ways.{tells}
 use Rattle.home.specs.declared.row.Row.{Row}
 use Rattle.home.specs.declared.row.Change.{Change}
 use Rattle.home.specs.Rows.{amended, row-after}
 use Rattle.home.specs.Meaning.{Meaning, after, changed, checked-place, found, is-sound}
+use Rattle.home.specs.Opening.{first-bad, is-count, row-flaw}
+use Rattle.home.proofs.Opening.{all-fair-from}
 use Rattle.home.proofs.Calls.{found-at, made, parts-sound, sound-after, sound-parts, stored}
-use Rattle.makes.specs.Opening.{table-meaning}
+use Rattle.makes.specs.Opening.{after-size, row-check, table-meaning}
+
+pub passed-from : (r : Result (Unit {0}) Fault) → isErr r ≡ false → r ≡ Ok tt
+passed-from (Ok x) ok = refl
+passed-from (Err e) ok = absurd (let z : _≡_ {A = ℕ} 0 1 = cc in omega arith)
 
 module _ {V : Type 0} where
   pub in-table : (passed : Bool) (rows : List (Row V)) (key : ℕ) (row : Row V) → found (nth (cond passed rows []) key) ≡ Ok row → (passed ≡ true) × (key < length rows) × (nth rows key ≡ Some row)
@@ -37,3 +48,13 @@ module _ {V : Type 0} where
       let m = table-meaning passed last rows in
       let s = parts-sound _ (sound-after m key change (sound-parts m was)) in
       ap is-sound (table-after passed last rows key change row new ok at left) ∙ s
+
+  -- a table that passes its check is a sound home
+  by-size : (b : Bool) (last : ℕ) (rows : List (Row V)) → (is-count (length rows) && leb last 9223372036854775807) ≡ b → after-size b (first-bad (row-flaw last) 0 rows) ≡ Ok tt → is-sound (table-meaning true last rows) ≡ true
+  by-size true last rows size ok =
+      let all = all-fair-from last 0 rows ok in
+      parts-sound (table-meaning true last rows) (record { few = grind (arith, tells); ends = grind (arith, tells); rows = all })
+  by-size false last rows size ok = absurd (let z : _≡_ {A = ℕ} 0 1 = cc in omega arith)
+
+  pub checked-sound : (last : ℕ) (rows : List (Row V)) → isErr (row-check last rows) ≡ false → is-sound (table-meaning true last rows) ≡ true
+  checked-sound last rows ok = by-size _ last rows refl (passed-from _ ok)
