@@ -28,8 +28,7 @@ pub trait Home {
 
     // The last timestamp that a lease of this home can reach.
     fn last(&self) -> u64
-        ensures answer { λ r. ⌜ r ≡ meaning (now (self .entry)) .last ⌝ }
-        ensures sound { λ _. ⌜ Sound (meaning (now (self .entry))) ⌝ };
+        ensures { λ r. ⌜ r ≡ meaning (now (self .entry)) .last ⌝ };
 
     // The row of a key. Refuses 1.
     fn look(&self, key: u32) -> Result<Row<Self::Value>, Fault>

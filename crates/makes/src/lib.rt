@@ -1,6 +1,9 @@
 // The three makes of home: over a table of rows, over bytes, and over two homes side by side.
 mod opening;
 mod row_home;
+mod split_home;
 
 pub use row_home::RowHome;
 pub use row_home::RowHomeCalls;
+pub use split_home::SplitHome;
+pub use split_home::SplitHomeCalls;
