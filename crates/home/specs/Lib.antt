@@ -3,3 +3,4 @@ pub mod Rows
 pub mod Meaning
 pub mod Memory
 pub mod Opening
+pub mod Laws

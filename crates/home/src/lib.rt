@@ -1,8 +1,10 @@
 // What a home is: rows with leases, the calls on them, and why a call is refused.
+mod changes;
 mod fault;
 mod home;
 mod row;
 
+pub use changes::amend;
 pub use fault::Fault;
 pub use fault::FaultDebug;
 pub use fault::FaultPartialEq;
