@@ -11,13 +11,15 @@ use Rattle.std.specs.declared.option.Option.{Option}
 use Rattle.std.specs.declared.option.Option.the-variants.{Some, None}
 use Rattle.std.specs.declared.result.Result.{Result}
 use Rattle.std.specs.declared.result.Result.the-variants.{Ok, Err}
+use Rattle.std.proofs.shelf.Lists.{set-set}
 use Rattle.std.proofs.shelf.Ways.{tells}
 use Rattle.home.specs.declared.fault.Fault.{Fault}
+use Rattle.home.specs.declared.row.Cause.{Cause}
 use Rattle.home.specs.declared.row.Row.{Row}
 use Rattle.home.specs.declared.row.Change.{Change}
 use Rattle.home.specs.declared.row.Change.the-variants.{Hold, Renew, Put, Free}
 use Rattle.home.specs.Rows.{Outcome, refuses, grants, amended, row-after}
-use Rattle.home.specs.Meaning.{Meaning, Sound, after, amended-at, answer, changed, fair, no-place, place-of, rows-after, well-placed}
+use Rattle.home.specs.Meaning.{Meaning, Sound, after, amended-at, answer, changed, fair, fault-at, found, looked, no-place, place-of, raised, rows-after, well-placed}
 use Rattle.home.specs.Laws.{Lawful, keeps-holder}
 use Rattle.home.proofs.Calls.{fair-at, sound-after}
 
@@ -55,6 +57,17 @@ module _ {V : Type 0} where
   amended-holder last (Put place value t) row new keeps is = absurd (let z : _≡_ {A = ℕ} 0 1 = cc in omega arith)
   amended-holder last (Free place) row new keeps is = absurd (let z : _≡_ {A = ℕ} 0 1 = cc in omega arith)
 
+  -- ---- what a caller learns from an answer
+
+  module _ {A : Type 0} (f : Row V → A) (place key : ℕ) where
+    pub refused-from : (o : Outcome V) (fault : Fault) → answer f place key o ≡ Err fault → (cause : Cause) × (o ≡ refuses cause) × (fault ≡ fault-at place key cause)
+    refused-from (refuses cause) fault is = (cause, refl, cc)
+    refused-from (grants row) fault is = absurd (let z : _≡_ {A = ℕ} 0 1 = cc in omega arith)
+
+    pub granted-from : (o : Outcome V) (a : A) → answer f place key o ≡ Ok a → (row : Row V) × (o ≡ grants row) × (a ≡ f row)
+    granted-from (refuses cause) a is = absurd (let z : _≡_ {A = ℕ} 0 1 = cc in omega arith)
+    granted-from (grants row) a is = (row, refl, cc)
+
   -- ---- a change
 
   -- a granted change found a row under its key, and left the row's rule there
@@ -69,6 +82,32 @@ module _ {V : Type 0} where
       by-place : (b : Bool) → cond b (amended-at (m .last) change (nth (m .rows) key)) (refuses no-place) ≡ grants new → (row : Row V) × (nth (m .rows) key ≡ Some row) × (amended (m .last) change row ≡ grants new)
       by-place true is = by-row _ refl is
       by-place false is = absurd (let z : _≡_ {A = ℕ} 0 1 = cc in omega arith)
+
+  -- and its place was one
+  pub granted-place : (m : Meaning V) (key : ℕ) (change : Change V) (new : Row V) → changed m key change ≡ grants new → well-placed change ≡ true
+  unfolding changed
+  granted-place m key change new is = by-place (well-placed change) is
+    where
+      by-place : (b : Bool) → cond b (amended-at (m .last) change (nth (m .rows) key)) (refuses no-place) ≡ grants new → b ≡ true
+      by-place true is = refl
+      by-place false is = absurd (let z : _≡_ {A = ℕ} 0 1 = cc in omega arith)
+
+  -- a change at a place, of a key that is there, is the row's
+  pub changed-at : (m : Meaning V) (key : ℕ) (change : Change V) (row : Row V) → well-placed change ≡ true → nth (m .rows) key ≡ Some row → changed m key change ≡ amended (m .last) change row
+  unfolding changed
+  changed-at m key change row ok at = ap (λ b. cond b (amended-at (m .last) change (nth (m .rows) key)) (refuses no-place)) ok ∙ ap (amended-at (m .last) change) at
+
+  -- a second change of the key is seen alone
+  pub after-twice : (m : Meaning V) (key : ℕ) (one two : Row V) → after (after m key (grants one)) key (grants two) ≡ after m key (grants two)
+  after-twice m key one two = ap (λ rows. record { last = m .last; rows = rows }) (set-set (m .rows) key one two)
+
+  -- what is found under the key of a granted change
+  pub found-after : (m : Meaning V) (key : ℕ) (change : Change V) (new : Row V) → changed m key change ≡ grants new → nth (after m key (grants new) .rows) key ≡ Some new
+  found-after m key change new is = let g = granted m key change new is in nth-set-same (m .rows) key new (nth-within (m .rows) key (g .0) (g .1))
+
+  pub looked-at : (m : Meaning V) (key : ℕ) (row : Row V) → nth (m .rows) key ≡ Some row → looked m key ≡ Ok row
+  unfolding looked
+  looked-at m key row at = ap (λ x. raised 0 key (found x)) at
 
   by-outcome : {A : Type 0} (f : Row V → A) (place : ℕ) (m : Meaning V) (key : ℕ) (change : Change V) (o : Outcome V) → changed m key change ≡ o → Sound m → Sound (after m key o) → Lawful m (after m key o) key change (answer f place key o)
   by-outcome f place m key change (refuses cause) is was sound = record {

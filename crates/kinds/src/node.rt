@@ -34,6 +34,16 @@ impl Node {
         u32::from(self.day_less_one) + 1
     }
 
+    // The node of the same day with another rate.
+    pub fn with_rate(self, rate: i32) -> Node
+        ensures { λ r. ⌜ r ≡ record { «day_less_one» = self .«day_less_one»; rate = rate } ⌝ }
+    {
+        Node {
+            day_less_one: self.day_less_one,
+            rate,
+        }
+    }
+
     // The rate, in hundredths of a basis point.
     pub fn rate(self) -> i32
         ensures { λ r. ⌜ r ≡ self .rate ⌝ }

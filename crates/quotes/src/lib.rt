@@ -1,0 +1,11 @@
+// A quote server's morning: new quotes for the nodes of a curve, over any home.
+mod order;
+mod serve;
+mod tally;
+
+pub use order::Order;
+pub use serve::keep;
+pub use serve::quote;
+pub use serve::serve_order;
+pub use serve::withdraw;
+pub use tally::Tally;
