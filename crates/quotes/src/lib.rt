@@ -1,8 +1,10 @@
 // A quote server's morning: new quotes for the nodes of a curve, over any home.
+mod morning;
 mod order;
 mod serve;
 mod tally;
 
+pub use morning::serve_all;
 pub use order::Order;
 pub use serve::keep;
 pub use serve::quote;
