@@ -1,9 +1,12 @@
 // A quote server's morning: new quotes for the nodes of a curve, over any home.
+mod input;
 mod morning;
 mod order;
 mod serve;
 mod tally;
 
+pub use input::Line;
+pub use input::read_line;
 pub use morning::serve_all;
 pub use order::Order;
 pub use serve::keep;
