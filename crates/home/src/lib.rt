@@ -16,3 +16,6 @@ pub use row::Change;
 pub use row::Flaw;
 pub use row::Lease;
 pub use row::Row;
+pub use row::RowClone;
+pub use row::RowDebug;
+pub use row::RowPartialEq;

@@ -24,11 +24,27 @@ pub fn read_line(line: &str) -> Option<Line> {
     let read = match words.next()? {
         "near" => Line::Near(node(&mut words)?),
         "far" => Line::Far(node(&mut words)?),
-        "quote" => Line::Order(Order::Quote { place: number(&mut words)?, key: number(&mut words)?, rate: number(&mut words)? }),
-        "withdraw" => Line::Order(Order::Withdraw { place: number(&mut words)?, key: number(&mut words)? }),
-        "take" => Line::Order(Order::Take { place: number(&mut words)?, key: number(&mut words)? }),
-        "release" => Line::Order(Order::Release { place: number(&mut words)?, key: number(&mut words)? }),
-        "keep" => Line::Order(Order::Keep { key: number(&mut words)?, t: number(&mut words)? }),
+        "quote" => Line::Order(Order::Quote {
+            place: number(&mut words)?,
+            key: number(&mut words)?,
+            rate: number(&mut words)?,
+        }),
+        "withdraw" => Line::Order(Order::Withdraw {
+            place: number(&mut words)?,
+            key: number(&mut words)?,
+        }),
+        "take" => Line::Order(Order::Take {
+            place: number(&mut words)?,
+            key: number(&mut words)?,
+        }),
+        "release" => Line::Order(Order::Release {
+            place: number(&mut words)?,
+            key: number(&mut words)?,
+        }),
+        "keep" => Line::Order(Order::Keep {
+            key: number(&mut words)?,
+            t: number(&mut words)?,
+        }),
         _ => return None,
     };
     match words.next() {
