@@ -1,0 +1,102 @@
+-- Rows as bytes: what is put together is taken apart again, and the other way round.
+use Prim.Native.Nat.{ℕ, _+_, _*_, _/_, _%_, _<_, _≤_}
+use mathlib.Core.Path.{_≡_, refl, ap, sym, _∙_}
+use mathlib.Core.List.{List, [], _∷_}
+use mathlib.Core.Bool.{Bool, true, false, cond}
+use native.Mathlib.Nat.{div-add-mod', div-div-eq-div-mul, mod-eq-of-lt}
+use native.Mathlib.Omega.{arith}
+use lib.Dec.{eqb}
+use lib.ListN.{length, getD}
+use Rattle.std.specs.declared.option.Option.{Option}
+use Rattle.std.specs.declared.option.Option.the-variants.{Some, None}
+use Rattle.std.proofs.shelf.Tests.{eq-eqb, cond-true}
+use Rattle.home.specs.declared.row.Row.{Row}
+use Rattle.makes.specs.Bytes.{eight-at, eight-bytes, four-at, four-bytes, row-bytes, word-row}
+
+pub split-is : (bs : List ℕ) (w a b h : ℕ) → length bs ≡ 17 → w ≡ eight-at 0 bs → a ≡ four-at 8 bs → b ≡ four-at 12 bs → h ≡ getD bs 16 0 → Some (record { value = w; wts = a; rts = b; holder = h }) ≡ cond (eqb (length bs) 17) (Some (word-row bs)) None
+unfolding word-row
+split-is bs w a b h long we ae be he =
+    let same : _≡_ {A = Row ℕ} (record { value = w; wts = a; rts = b; holder = h }) (word-row bs) = cc in
+    ap Some same ∙ sym (cond-true _ _ _ (eq-eqb _ _ long))
+
+-- ---- four bytes and eight
+
+-- the quotient by a power of 256, byte by byte
+above : (n k : ℕ) → n / (256 * k) ≡ n / 256 / k
+above n k = sym (div-div-eq-div-mul n 256 k)
+
+below : (n k : ℕ) → n / (k * 256) ≡ n / k / 256
+below n k = sym (div-div-eq-div-mul n k 256)
+
+four-sum : (n q1 q2 q3 r0 r1 r2 : ℕ) → q1 * 256 + r0 ≡ n → q2 * 256 + r1 ≡ q1 → q3 * 256 + r2 ≡ q2 → q3 * 16777216 + r2 * 65536 + r1 * 256 + r0 ≡ n
+four-sum n q1 q2 q3 r0 r1 r2 h0 h1 h2 = omega arith
+
+pub four-again : (n : ℕ) → n < 4294967296 → four-at 0 (four-bytes n) ≡ n
+four-again n small =
+    let top : n / 16777216 % 256 ≡ n / 16777216 = mod-eq-of-lt (omega arith) in
+    let s1 : n / 65536 * 256 + n / 256 % 256 ≡ n / 256 = ap (λ q. q * 256 + n / 256 % 256) (below n 256) ∙ div-add-mod' (n / 256) 256 in
+    let s2 : n / 16777216 * 256 + n / 65536 % 256 ≡ n / 65536 = ap (λ q. q * 256 + n / 65536 % 256) (below n 65536) ∙ div-add-mod' (n / 65536) 256 in
+    let all = four-sum n (n / 256) (n / 65536) (n / 16777216) (n % 256) (n / 256 % 256) (n / 65536 % 256) (div-add-mod' n 256) s1 s2 in
+    rw top all
+
+eight-sum : (n q1 q2 q3 q4 q5 q6 q7 r0 r1 r2 r3 r4 r5 r6 : ℕ) → q1 * 256 + r0 ≡ n → q2 * 256 + r1 ≡ q1 → q3 * 256 + r2 ≡ q2 → q4 * 256 + r3 ≡ q3 → q5 * 256 + r4 ≡ q4 → q6 * 256 + r5 ≡ q5 → q7 * 256 + r6 ≡ q6 → q7 * 72057594037927936 + r6 * 281474976710656 + r5 * 1099511627776 + r4 * 4294967296 + r3 * 16777216 + r2 * 65536 + r1 * 256 + r0 ≡ n
+eight-sum n q1 q2 q3 q4 q5 q6 q7 r0 r1 r2 r3 r4 r5 r6 h0 h1 h2 h3 h4 h5 h6 = omega arith
+
+pub eight-again : (n : ℕ) → n < 18446744073709551616 → eight-at 0 (eight-bytes n) ≡ n
+eight-again n small =
+    let top : n / 72057594037927936 % 256 ≡ n / 72057594037927936 = mod-eq-of-lt (omega arith) in
+    let s1 : n / 65536 * 256 + n / 256 % 256 ≡ n / 256 = ap (λ q. q * 256 + n / 256 % 256) (below n 256) ∙ div-add-mod' (n / 256) 256 in
+    let s2 : n / 16777216 * 256 + n / 65536 % 256 ≡ n / 65536 = ap (λ q. q * 256 + n / 65536 % 256) (below n 65536) ∙ div-add-mod' (n / 65536) 256 in
+    let s3 : n / 4294967296 * 256 + n / 16777216 % 256 ≡ n / 16777216 = ap (λ q. q * 256 + n / 16777216 % 256) (below n 16777216) ∙ div-add-mod' (n / 16777216) 256 in
+    let s4 : n / 1099511627776 * 256 + n / 4294967296 % 256 ≡ n / 4294967296 = ap (λ q. q * 256 + n / 4294967296 % 256) (below n 4294967296) ∙ div-add-mod' (n / 4294967296) 256 in
+    let s5 : n / 281474976710656 * 256 + n / 1099511627776 % 256 ≡ n / 1099511627776 = ap (λ q. q * 256 + n / 1099511627776 % 256) (below n 1099511627776) ∙ div-add-mod' (n / 1099511627776) 256 in
+    let s6 : n / 72057594037927936 * 256 + n / 281474976710656 % 256 ≡ n / 281474976710656 = ap (λ q. q * 256 + n / 281474976710656 % 256) (below n 281474976710656) ∙ div-add-mod' (n / 281474976710656) 256 in
+    let all = eight-sum n (n / 256) (n / 65536) (n / 16777216) (n / 4294967296) (n / 1099511627776) (n / 281474976710656) (n / 72057594037927936) (n % 256) (n / 256 % 256) (n / 65536 % 256) (n / 16777216 % 256) (n / 4294967296 % 256) (n / 1099511627776 % 256) (n / 281474976710656 % 256) (div-add-mod' n 256) s1 s2 s3 s4 s5 s6 in
+    rw top all
+
+-- one byte taken off a number
+last-byte : (n q r : ℕ) → n ≡ q * 256 + r → r < 256 → (n / 256 ≡ q) × (n % 256 ≡ r)
+last-byte n q r is small = (omega arith, omega arith)
+
+pub four-back : (b0 b1 b2 b3 : ℕ) → b0 < 256 → b1 < 256 → b2 < 256 → b3 < 256 → four-bytes (b0 * 16777216 + b1 * 65536 + b2 * 256 + b3) ≡ b0 ∷ b1 ∷ b2 ∷ b3 ∷ []
+four-back b0 b1 b2 b3 l0 l1 l2 l3 =
+    let n = b0 * 16777216 + b1 * 65536 + b2 * 256 + b3 in
+    let c0 = last-byte n (b0 * 65536 + b1 * 256 + b2) b3 (omega arith) l3 in
+    let e1 : n / 256 ≡ b0 * 65536 + b1 * 256 + b2 = c0 .0 in
+    let c1 = last-byte (n / 256) (b0 * 256 + b1) b2 (e1 ∙ omega arith) l2 in
+    let e2 : n / 65536 ≡ b0 * 256 + b1 = below n 256 ∙ c1 .0 in
+    let c2 = last-byte (n / 65536) (b0) b1 (e2 ∙ omega arith) l1 in
+    let e3 : n / 16777216 ≡ b0 = below n 65536 ∙ c2 .0 in
+    let t : n / 16777216 % 256 ≡ b0 = ap (λ q. q % 256) e3 ∙ mod-eq-of-lt l0 in
+    let r0 : n % 256 ≡ b3 = c0 .1 in
+    let r1 : n / 256 % 256 ≡ b2 = c1 .1 in
+    let r2 : n / 65536 % 256 ≡ b1 = c2 .1 in
+    cc
+
+pub eight-back : (b0 b1 b2 b3 b4 b5 b6 b7 : ℕ) → b0 < 256 → b1 < 256 → b2 < 256 → b3 < 256 → b4 < 256 → b5 < 256 → b6 < 256 → b7 < 256 → eight-bytes (b0 * 72057594037927936 + b1 * 281474976710656 + b2 * 1099511627776 + b3 * 4294967296 + b4 * 16777216 + b5 * 65536 + b6 * 256 + b7) ≡ b0 ∷ b1 ∷ b2 ∷ b3 ∷ b4 ∷ b5 ∷ b6 ∷ b7 ∷ []
+eight-back b0 b1 b2 b3 b4 b5 b6 b7 l0 l1 l2 l3 l4 l5 l6 l7 =
+    let n = b0 * 72057594037927936 + b1 * 281474976710656 + b2 * 1099511627776 + b3 * 4294967296 + b4 * 16777216 + b5 * 65536 + b6 * 256 + b7 in
+    let c0 = last-byte n (b0 * 281474976710656 + b1 * 1099511627776 + b2 * 4294967296 + b3 * 16777216 + b4 * 65536 + b5 * 256 + b6) b7 (omega arith) l7 in
+    let e1 : n / 256 ≡ b0 * 281474976710656 + b1 * 1099511627776 + b2 * 4294967296 + b3 * 16777216 + b4 * 65536 + b5 * 256 + b6 = c0 .0 in
+    let c1 = last-byte (n / 256) (b0 * 1099511627776 + b1 * 4294967296 + b2 * 16777216 + b3 * 65536 + b4 * 256 + b5) b6 (e1 ∙ omega arith) l6 in
+    let e2 : n / 65536 ≡ b0 * 1099511627776 + b1 * 4294967296 + b2 * 16777216 + b3 * 65536 + b4 * 256 + b5 = below n 256 ∙ c1 .0 in
+    let c2 = last-byte (n / 65536) (b0 * 4294967296 + b1 * 16777216 + b2 * 65536 + b3 * 256 + b4) b5 (e2 ∙ omega arith) l5 in
+    let e3 : n / 16777216 ≡ b0 * 4294967296 + b1 * 16777216 + b2 * 65536 + b3 * 256 + b4 = below n 65536 ∙ c2 .0 in
+    let c3 = last-byte (n / 16777216) (b0 * 16777216 + b1 * 65536 + b2 * 256 + b3) b4 (e3 ∙ omega arith) l4 in
+    let e4 : n / 4294967296 ≡ b0 * 16777216 + b1 * 65536 + b2 * 256 + b3 = below n 16777216 ∙ c3 .0 in
+    let c4 = last-byte (n / 4294967296) (b0 * 65536 + b1 * 256 + b2) b3 (e4 ∙ omega arith) l3 in
+    let e5 : n / 1099511627776 ≡ b0 * 65536 + b1 * 256 + b2 = below n 4294967296 ∙ c4 .0 in
+    let c5 = last-byte (n / 1099511627776) (b0 * 256 + b1) b2 (e5 ∙ omega arith) l2 in
+    let e6 : n / 281474976710656 ≡ b0 * 256 + b1 = below n 1099511627776 ∙ c5 .0 in
+    let c6 = last-byte (n / 281474976710656) (b0) b1 (e6 ∙ omega arith) l1 in
+    let e7 : n / 72057594037927936 ≡ b0 = below n 281474976710656 ∙ c6 .0 in
+    let t : n / 72057594037927936 % 256 ≡ b0 = ap (λ q. q % 256) e7 ∙ mod-eq-of-lt l0 in
+    let r0 : n % 256 ≡ b7 = c0 .1 in
+    let r1 : n / 256 % 256 ≡ b6 = c1 .1 in
+    let r2 : n / 65536 % 256 ≡ b5 = c2 .1 in
+    let r3 : n / 16777216 % 256 ≡ b4 = c3 .1 in
+    let r4 : n / 4294967296 % 256 ≡ b3 = c4 .1 in
+    let r5 : n / 1099511627776 % 256 ≡ b2 = c5 .1 in
+    let r6 : n / 281474976710656 % 256 ≡ b1 = c6 .1 in
+    cc
+
