@@ -24,7 +24,7 @@ pub trait Kind: Copy {
     law back: { (w : ℕ) (x : Self) → w < 2 ^ 64 → unpacked w ≡ Some x → packed x ≡ w };
 
     // Where a word has a value, it is read as that value.
-    law right: { (w : ℕ) (x : Self) → w < 2 ^ 64 → unpacked w ≡ Some x → reading w ≡ x };
+    law right: { (w : ℕ) (x : Self) → unpacked w ≡ Some x → reading w ≡ x };
 
     // The code of the kind.
     fn kind_code() -> u8

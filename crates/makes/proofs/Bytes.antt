@@ -1,17 +1,26 @@
 -- Rows as bytes: what is put together is taken apart again, and the other way round.
-use Prim.Native.Nat.{ℕ, _+_, _*_, _/_, _%_, _<_, _≤_}
+use Prim.Native.Nat.{ℕ, _+_, _-_, _*_, _/_, _%_, _<_, _≤_}
+use mathlib.Core.Logic.{_≢_, _⊎_, inl, inr}
 use mathlib.Core.Path.{_≡_, refl, ap, sym, _∙_}
-use mathlib.Core.List.{List, [], _∷_}
+use mathlib.Core.List.{List, [], _∷_, _++_, map}
 use mathlib.Core.Bool.{Bool, true, false, cond}
 use native.Mathlib.Nat.{div-add-mod', div-div-eq-div-mul, mod-eq-of-lt}
 use native.Mathlib.Omega.{arith}
 use lib.Dec.{eqb}
-use lib.ListN.{length, getD}
+use lib.ListN.{length, getD, set, take, drop}
+use borrow.Author.Needs.{needs}
+use borrow.Rule.Slice.PartMut.{putMid}
+use Rattle.std.specs.Holes.{between}
+use Rattle.std.specs.Iters.{counting}
 use Rattle.std.specs.declared.option.Option.{Option}
 use Rattle.std.specs.declared.option.Option.the-variants.{Some, None}
-use Rattle.std.proofs.shelf.Tests.{eq-eqb, cond-true}
+use Rattle.std.proofs.shelf.Counted.{fill-by-all, getD-map-counting, length-map-counting}
+use Rattle.std.proofs.shelf.Lists.{places, same-lists, length-set, getD-set-same, getD-set-other}
+use Rattle.std.proofs.shelf.Parts.{between-is, between-putMid, drop-putMid, take-putMid-below}
+use Rattle.std.proofs.shelf.Tests.{cases-order, cond-true, eq-eqb}
+use Rattle.std.proofs.shelf.Ways.{tells}
 use Rattle.home.specs.declared.row.Row.{Row}
-use Rattle.makes.specs.Bytes.{eight-at, eight-bytes, four-at, four-bytes, row-bytes, word-row}
+use Rattle.makes.specs.Bytes.{eight-at, eight-bytes, four-at, four-bytes, has-room, row-at, row-bytes, word-row, word-rows}
 
 pub split-is : (bs : List ℕ) (w a b h : ℕ) → length bs ≡ 17 → w ≡ eight-at 0 bs → a ≡ four-at 8 bs → b ≡ four-at 12 bs → h ≡ getD bs 16 0 → Some (record { value = w; wts = a; rts = b; holder = h }) ≡ cond (eqb (length bs) 17) (Some (word-row bs)) None
 unfolding word-row
@@ -100,3 +109,85 @@ eight-back b0 b1 b2 b3 b4 b5 b6 b7 l0 l1 l2 l3 l4 l5 l6 l7 =
     let r6 : n / 281474976710656 % 256 ≡ b1 = c6 .1 in
     cc
 
+-- ---- one row
+
+same-row : {w a b v c d : ℕ} (h : ℕ) → w ≡ v → a ≡ c → b ≡ d → _≡_ {A = Row ℕ} (record { value = w; wts = a; rts = b; holder = h }) (record { value = v; wts = c; rts = d; holder = h })
+same-row h p q r = cc
+
+pub word-row-bytes : (row : Row ℕ) → row .value < 18446744073709551616 → has-room row ≡ true → word-row (row-bytes row) ≡ row
+unfolding word-row row-bytes
+word-row-bytes row word room =
+    let a : row .wts < 4294967296 = grind (arith, tells) in
+    let b : row .rts < 4294967296 = grind (arith, tells) in
+    same-row (row .holder) (eight-again (row .value) word) (four-again (row .wts) a) (four-again (row .rts) b)
+
+-- a list of seventeen is its elements
+listed : (bs : List ℕ) → length bs ≡ 17 → bs ≡ map (λ k. getD bs k 0) (counting 0 17)
+listed bs long = fill-by-all (λ k. getD bs k 0) bs 17 0 long (λ k h. refl)
+
+same-bytes : {xs ys zs us vs ws : List ℕ} (h : ℕ) → xs ≡ us → ys ≡ vs → zs ≡ ws → xs ++ (ys ++ (zs ++ (h ∷ []))) ≡ us ++ (vs ++ (ws ++ (h ∷ [])))
+same-bytes h p q r = cc
+
+pub row-bytes-word : (bs : List ℕ) → length bs ≡ 17 → ((i : ℕ) → getD bs i 0 < 256) → row-bytes (word-row bs) ≡ bs
+unfolding word-row row-bytes
+row-bytes-word bs long fit =
+    let b = λ (k : ℕ). getD bs k 0 in
+    let we = eight-back (b 0) (b 1) (b 2) (b 3) (b 4) (b 5) (b 6) (b 7) (fit 0) (fit 1) (fit 2) (fit 3) (fit 4) (fit 5) (fit 6) (fit 7) in
+    let ae = four-back (b 8) (b 9) (b 10) (b 11) (fit 8) (fit 9) (fit 10) (fit 11) in
+    let be = four-back (b 12) (b 13) (b 14) (b 15) (fit 12) (fit 13) (fit 14) (fit 15) in
+    same-bytes (b 16) we ae be ∙ sym (listed bs long)
+
+pub length-row-bytes : (row : Row ℕ) → length (row-bytes row) ≡ 17
+unfolding row-bytes
+length-row-bytes row = refl
+
+-- ---- a table
+
+pub length-word-rows : (bs : List ℕ) → length (word-rows bs) ≡ length bs / 17
+unfolding word-rows
+length-word-rows bs = length-map-counting (row-at bs) 0 (length bs / 17)
+
+pub getD-word-rows : (bs : List ℕ) (key : ℕ) (d : Row ℕ) → key < length bs / 17 → getD (word-rows bs) key d ≡ row-at bs key
+unfolding word-rows
+getD-word-rows bs key d within = getD-map-counting (row-at bs) 0 (length bs / 17) key key d within (omega arith)
+
+module _ (bs ys : List ℕ) (key k : ℕ) (within : key < length bs / 17) (long : length ys ≡ 17) (part : k ≡ 17) where
+  -- the bytes after a write over the row of the key
+  abbrev after-write : List ℕ
+  after-write = putMid (key * 17) k bs ys
+
+  room : key * 17 + 17 ≤ length bs
+  room = omega arith
+
+  length-after : length after-write ≡ length bs
+  length-after = let r = room in search (needs, places)
+
+  before : (j : ℕ) → j < key → row-at after-write j ≡ row-at bs j
+  before j less = let r = room in ap word-row (between-is after-write (j * 17) (j * 17 + 17) ∙ ap (drop (j * 17)) (take-putMid-below (key * 17) k bs ys (j * 17 + 17) (omega arith) (omega arith)) ∙ sym (between-is bs (j * 17) (j * 17 + 17)))
+
+  past : (j : ℕ) → key < j → row-at after-write j ≡ row-at bs j
+  past j more = let r = room in ap (λ rest. word-row (take (j * 17 + 17 - j * 17) rest)) (drop-putMid (key * 17) k bs ys (j * 17) (omega arith) (omega arith) (omega arith))
+
+  here : row-at after-write key ≡ word-row ys
+  here = let r = room in ap word-row (between-putMid (key * 17) k bs ys (key * 17 + 17) (omega arith) (omega arith))
+
+  -- each other row is as it was
+  by-key : (row : Row ℕ) → word-row ys ≡ row → (j : ℕ) (d : Row ℕ) → j < length bs / 17 → (j ≡ key) ⊎ ((j < key) ⊎ (key < j)) → row-at after-write j ≡ getD (set (word-rows bs) key row) j d
+  by-key row is j d inside (inl same) =
+      let l : key < length (word-rows bs) = rw length-word-rows within in
+      ap (row-at after-write) same ∙ here ∙ is ∙ sym (getD-set-same (word-rows bs) key row d l) ∙ ap (λ i. getD (set (word-rows bs) key row) i d) (sym same)
+  by-key row is j d inside (inr (inl less)) =
+      let ne : j ≢ key = omega arith in
+      before j less ∙ sym (getD-word-rows bs j d inside) ∙ sym (getD-set-other (word-rows bs) key j row d ne)
+  by-key row is j d inside (inr (inr more)) =
+      let ne : j ≢ key = omega arith in
+      past j more ∙ sym (getD-word-rows bs j d inside) ∙ sym (getD-set-other (word-rows bs) key j row d ne)
+
+  pub word-rows-set : (row : Row ℕ) → word-row ys ≡ row → word-rows after-write ≡ set (word-rows bs) key row
+  word-rows-set row is =
+      let count : length after-write / 17 ≡ length bs / 17 = ap (λ n. n / 17) length-after in
+      same-lists _ _ (length-word-rows after-write ∙ count ∙ sym (length-word-rows bs) ∙ sym (length-set (word-rows bs) key row))
+      (λ j d h.
+      let inside : j < length bs / 17 = omega (arith, length-word-rows after-write, count) in
+      let inside-after : j < length after-write / 17 = omega (arith, count) in
+      getD-word-rows after-write j d inside-after ∙ by-key row is j d inside (cases-order j key))

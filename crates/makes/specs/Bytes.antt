@@ -5,7 +5,11 @@
 --   has-room row                 the numbers of the row fit their bytes
 --   row-packed packed row        the bytes of a row of a kind, if it has room in them
 --   row-unpacked unpacked bs     the row of a kind, if there are seventeen bytes and the word has a value
---   word-rows bs                 a table of bytes, from the first on; what is left over is no row
+--   word-rows bs                 the rows of a table of bytes; what is left over is no row
+--   read-rows read bs            those rows, with each word read as a value
+--   byte-flaw unpacked row       what is bad of a row: the lease, then the holder, then the word
+--   byte-check unpacked bs       the check of a byte home
+--   byte-opened unpacked bs      what a byte home means when it is made
 use Prim.Native.Nat.{ℕ, _+_, _*_, _/_, _%_}
 use mathlib.Core.List.{List, [], _∷_, _++_, map}
 use mathlib.Core.Bool.{Bool, cond, _&&_}
@@ -15,7 +19,15 @@ use Rattle.std.specs.Holes.{between}
 use Rattle.std.specs.Iters.{counting}
 use Rattle.std.specs.declared.option.Option.{Option}
 use Rattle.std.specs.declared.option.Option.the-variants.{Some, None}
+use Rattle.std.specs.declared.result.Result.{Result}
+use Rattle.std.specs.declared.result.Result.the-variants.{Ok, Err}
+use Rattle.home.specs.declared.fault.Fault.{Fault}
 use Rattle.home.specs.declared.row.Row.{Row}
+use Rattle.home.specs.declared.row.Flaw.{Flaw}
+use Rattle.home.specs.declared.row.Flaw.the-variants.{Word}
+use Rattle.home.specs.Meaning.{Meaning}
+use Rattle.home.specs.Opening.{first-bad, is-count, row-flaw}
+use Rattle.makes.specs.Opening.{after-size}
 
 abbrev pub valued : {V W : Type 0} → (V → W) → Row V → Row W
 valued f row = record { value = f (row .value); wts = row .wts; rts = row .rts; holder = row .holder }
@@ -58,7 +70,44 @@ row-unpacked unpacked bs = cond (eqb (length bs) 17) (valued-if (unpacked (word-
 -- ---- a table
 
 abbrev pub row-at : List ℕ → ℕ → Row ℕ
-row-at bs key = word-row (between (17 * key) (17 * key + 17) bs)
+row-at bs key = word-row (between (key * 17) (key * 17 + 17) bs)
 
 unfoldable pub word-rows : List ℕ → List (Row ℕ)
 word-rows bs = map (row-at bs) (counting 0 (length bs / 17))
+
+abbrev pub read-rows : {V : Type 0} → (ℕ → V) → List ℕ → List (Row V)
+read-rows read bs = map (valued read) (word-rows bs)
+
+-- ---- the opening
+
+abbrev pub word-flaw : {V : Type 0} → Option V → Option Flaw
+word-flaw None = Some Word
+word-flaw (Some value) = None
+
+abbrev pub or-flaw : Option Flaw → Option Flaw → Option Flaw
+or-flaw None next = next
+or-flaw (Some flaw) next = Some flaw
+
+abbrev pub byte-flaw : {V : Type 0} → (ℕ → Option V) → Row ℕ → Option Flaw
+byte-flaw unpacked row = or-flaw (row-flaw 4294967295 row) (word-flaw (unpacked (row .value)))
+
+-- 16 for bytes that are no multiple of 17 or a count outside 1 to 65,535; then 17.
+abbrev pub byte-check : {V : Type 0} → (ℕ → Option V) → List ℕ → Result (Unit {0}) Fault
+byte-check unpacked bs = after-size (is-count (length bs / 17) && eqb (length bs % 17) 0) (first-bad (byte-flaw unpacked) 0 (word-rows bs))
+
+abbrev pub or-skip : {V : Type 0} → Option (Row V) → List (Row V) → List (Row V)
+or-skip None rows = rows
+or-skip (Some row) rows = row ∷ rows
+
+-- The rows of a kind, less those without a value: bytes that pass the check have none of these.
+abbrev pub kind-rows : {V : Type 0} → (ℕ → Option V) → List (Row ℕ) → List (Row V)
+kind-rows unpacked [] = []
+kind-rows unpacked (row ∷ rows) = or-skip (valued-if (unpacked (row .value)) row) (kind-rows unpacked rows)
+
+-- Exactly those rows, or no keys where the check fails.
+abbrev pub byte-made : {V : Type 0} → (ℕ → Option V) → List ℕ → Result (Unit {0}) Fault → Meaning V
+byte-made unpacked bs (Ok _) = record { last = 4294967295; rows = kind-rows unpacked (word-rows bs) }
+byte-made unpacked bs (Err _) = record { last = 4294967295; rows = [] }
+
+abbrev pub byte-opened : {V : Type 0} → (ℕ → Option V) → List ℕ → Meaning V
+byte-opened unpacked bs = byte-made unpacked bs (byte-check unpacked bs)

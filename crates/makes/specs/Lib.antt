@@ -1,3 +1,4 @@
 pub mod Opening
 pub mod RowHomes
 pub mod Bytes
+pub mod ByteHomes
