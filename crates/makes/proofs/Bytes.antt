@@ -17,16 +17,23 @@ use Rattle.std.specs.declared.option.Option.the-variants.{Some, None}
 use Rattle.std.proofs.shelf.Counted.{fill-by-all, getD-map-counting, length-map-counting}
 use Rattle.std.proofs.shelf.Lists.{places, same-lists, length-set, getD-set-same, getD-set-other}
 use Rattle.std.proofs.shelf.Parts.{between-is, between-putMid, drop-putMid, take-putMid-below}
-use Rattle.std.proofs.shelf.Tests.{cases-order, cond-true, eq-eqb}
+use Rattle.std.proofs.shelf.Tests.{and-from, cases-order, cond-true, eq-eqb, eqb-true, lt-ltb}
 use Rattle.std.proofs.shelf.Ways.{tells}
 use Rattle.home.specs.declared.row.Row.{Row}
-use Rattle.makes.specs.Bytes.{eight-at, eight-bytes, four-at, four-bytes, has-room, row-at, row-bytes, word-row, word-rows}
+use Rattle.makes.specs.Bytes.{eight-at, eight-bytes, four-at, four-bytes, has-room, row-at, row-bytes, row-packed, row-unpacked, valued, valued-if, word-row, word-rows}
 
 pub split-is : (bs : List ℕ) (w a b h : ℕ) → length bs ≡ 17 → w ≡ eight-at 0 bs → a ≡ four-at 8 bs → b ≡ four-at 12 bs → h ≡ getD bs 16 0 → Some (record { value = w; wts = a; rts = b; holder = h }) ≡ cond (eqb (length bs) 17) (Some (word-row bs)) None
 unfolding word-row
 split-is bs w a b h long we ae be he =
     let same : _≡_ {A = Row ℕ} (record { value = w; wts = a; rts = b; holder = h }) (word-row bs) = cc in
     ap Some same ∙ sym (cond-true _ _ _ (eq-eqb _ _ long))
+
+by-length : (bs : List ℕ) (row : Row ℕ) (b : Bool) → eqb (length bs) 17 ≡ b → Some row ≡ cond b (Some (word-row bs)) None → (length bs ≡ 17) × (row ≡ word-row bs)
+by-length bs row true long is = (eqb-true _ _ long, cc)
+by-length bs row false long is = absurd (let z : _≡_ {A = ℕ} 0 1 = cc in omega arith)
+
+pub split-from : (bs : List ℕ) (row : Row ℕ) → Some row ≡ cond (eqb (length bs) 17) (Some (word-row bs)) None → (length bs ≡ 17) × (row ≡ word-row bs)
+split-from bs row is = by-length bs row _ refl is
 
 -- ---- four bytes and eight
 
@@ -140,6 +147,34 @@ row-bytes-word bs long fit =
 pub length-row-bytes : (row : Row ℕ) → length (row-bytes row) ≡ 17
 unfolding row-bytes
 length-row-bytes row = refl
+
+pub word-small : (bs : List ℕ) → ((i : ℕ) → getD bs i 0 < 256) → word-row bs .value < 18446744073709551616
+unfolding word-row
+word-small bs fit = omega (arith, fit 0, fit 1, fit 2, fit 3, fit 4, fit 5, fit 6, fit 7)
+
+word-room : (bs : List ℕ) → ((i : ℕ) → getD bs i 0 < 256) → has-room (word-row bs) ≡ true
+unfolding word-row
+word-room bs fit =
+    let a : four-at 8 bs < 4294967296 = omega (arith, fit 8, fit 9, fit 10, fit 11) in
+    let b : four-at 12 bs < 4294967296 = omega (arith, fit 12, fit 13, fit 14, fit 15) in
+    and-from _ _ (lt-ltb _ _ a) (and-from _ _ (lt-ltb _ _ b) (lt-ltb _ _ (fit 16)))
+
+module _ {V : Type 0} (packed : V → ℕ) (unpacked : ℕ → Option V) where
+  -- unpacking what was packed gives the row
+  pub unpacked-packed : (row : Row V) → packed (row .value) < 18446744073709551616 → has-room row ≡ true → unpacked (packed (row .value)) ≡ Some (row .value) → row-unpacked unpacked (row-bytes (valued packed row)) ≡ Some row
+  unpacked-packed row small room own =
+      let apart = word-row-bytes (valued packed row) small room in
+      let long = eq-eqb _ _ (length-row-bytes (valued packed row)) in
+      cond-true _ _ _ long ∙ ap (λ (r : Row ℕ). valued-if (unpacked (r .value)) r) apart ∙ ap (λ o. valued-if o (valued packed row)) own
+
+  -- packing what was unpacked gives the bytes
+  pub packed-unpacked : (bs : List ℕ) (value : V) → length bs ≡ 17 → ((i : ℕ) → getD bs i 0 < 256) → packed value ≡ word-row bs .value → row-packed packed (valued (λ _. value) (word-row bs)) ≡ Some bs
+  packed-unpacked bs value long fit word =
+      let same : row-bytes (valued packed (valued (λ _. value) (word-row bs))) ≡ row-bytes (word-row bs) = ap (λ w. row-bytes (valued (λ _. w) (word-row bs))) word in
+      cond-true _ _ _ (word-room bs fit) ∙ ap Some (same ∙ row-bytes-word bs long fit)
+
+  pub unpacked-is : (bs : List ℕ) (value : V) → length bs ≡ 17 → unpacked (word-row bs .value) ≡ Some value → row-unpacked unpacked bs ≡ Some (valued (λ _. value) (word-row bs))
+  unpacked-is bs value long own = cond-true _ _ _ (eq-eqb _ _ long) ∙ ap (λ o. valued-if o (word-row bs)) own
 
 -- ---- a table
 
