@@ -5,13 +5,16 @@ ghost use denote.Ref.{now};
 ghost use Rattle.home.specs.Meaning.{is-sound};
 ghost use Rattle.makes.specs.Bytes.{word-rows};
 ghost use Rattle.makes.specs.Opening.{table-meaning};
-use std::marker::PhantomData;
+mod calls;
+mod making;
+
+pub use calls::ByteHomeCalls;
 
 // A home in a table of bytes. One that failed its check has no keys.
 #[derive(Drop)]
 pub struct ByteHome<'a, K> {
     bytes: &'a mut [u8],
     passed: bool,
-    kind: PhantomData<K>,
+    kind: [K; 0],
     ghost sound: { is-sound (table-meaning passed 4294967295 (word-rows (now bytes))) ≡ true },
 }

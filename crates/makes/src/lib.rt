@@ -5,6 +5,7 @@ mod row_bytes;
 mod row_home;
 
 pub use byte_home::ByteHome;
+pub use byte_home::ByteHomeCalls;
 pub use row_bytes::pack_row;
 pub use row_bytes::unpack_row;
 pub use row_home::RowHome;

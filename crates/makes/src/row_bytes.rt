@@ -75,6 +75,14 @@ pub fn revalued<V: Copy, W: Copy>(row: Row<V>, value: W) -> Row<W>
     }
 }
 
+// The row with its value's word in the place of the value.
+pub fn words_of<K: Kind>(row: Row<K>) -> Row<u64>
+    ensures words { λ r. ⌜ r ≡ valued (K·Kind .packed) row ⌝ }
+    ensures again { λ r. ⌜ K·Kind .unpacked (r .value) ≡ Some (row .value) ⌝ }
+{
+    revalued(row, row.value.pack())
+}
+
 // The bytes of a row; none where a timestamp is past 4,294,967,295 or the holder past 255.
 // Unpacking them gives the row again.
 pub fn pack_row<K: Kind>(row: Row<K>) -> Option<[u8; 17]>
@@ -84,7 +92,7 @@ pub fn pack_row<K: Kind>(row: Row<K>) -> Option<[u8; 17]>
     if row.wts > LAST || row.rts > LAST || row.holder > 255 {
         return None;
     }
-    Some(join_row(revalued(row, row.value.pack())))
+    Some(join_row(words_of(row)))
 }
 
 // The row of seventeen bytes; none where there are not seventeen or the word is no value of the kind.
