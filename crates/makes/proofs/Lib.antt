@@ -1,2 +1,3 @@
 pub mod Tables
 pub mod Bytes
+pub mod ByteTables

@@ -5,6 +5,8 @@ ghost use denote.Ref.{now};
 ghost use Rattle.home.specs.Meaning.{is-sound};
 ghost use Rattle.makes.specs.Bytes.{word-rows};
 ghost use Rattle.makes.specs.Opening.{table-meaning};
+use crate::row_bytes::ByteTable;
+
 mod calls;
 mod making;
 
@@ -13,8 +15,8 @@ pub use calls::ByteHomeCalls;
 // A home in a table of bytes. One that failed its check has no keys.
 #[derive(Drop)]
 pub struct ByteHome<'a, K> {
-    bytes: &'a mut [u8],
+    table: ByteTable<'a>,
     passed: bool,
     kind: [K; 0],
-    ghost sound: { is-sound (table-meaning passed 4294967295 (word-rows (now bytes))) ≡ true },
+    ghost sound: { is-sound (table-meaning passed 4294967295 (word-rows (now (table .bytes)))) ≡ true },
 }

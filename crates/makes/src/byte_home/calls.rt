@@ -6,7 +6,7 @@ ghost use denote.Ref.{name};
 ghost use lib.ListN.{length, set};
 ghost use Rattle.std.specs.Finite.{nth};
 ghost use Rattle.home.specs.Rows.{answer-of};
-ghost use Rattle.home.specs.Meaning.{after, changed, fair, found};
+ghost use Rattle.home.specs.Meaning.{Sound, after, changed, fair, found};
 ghost use Rattle.makes.specs.Bytes.{read-rows};
 ghost use Rattle.makes.specs.ByteHomes.{byte-home-meaning, byte-home-memory};
 use super::ByteHome;
@@ -14,7 +14,6 @@ use crate::row_bytes::LAST;
 use crate::row_bytes::ROW_BYTES;
 use crate::row_bytes::revalued;
 use crate::row_bytes::row_at;
-use crate::row_bytes::set_row;
 use crate::row_bytes::words_of;
 use home::Cause;
 use home::Change;
@@ -34,7 +33,7 @@ pub impl<'a, K: Kind> Home for ByteHome<'a, K> as ByteHomeCalls {
 
     fn count(&self) -> u32 {
         if self.passed {
-            (self.bytes.len() / ROW_BYTES) as u32
+            (self.table.bytes.len() / ROW_BYTES) as u32
         } else {
             0
         }
@@ -83,9 +82,10 @@ pub impl<'a, K: Kind> Home for ByteHome<'a, K> as ByteHomeCalls {
 impl<'a, K: Kind> ByteHome<'a, K> {
     // The row of a key. Its word has a value, since the check has passed.
     fn fetch(&self, key: u32) -> Result<Row<K>, Cause>
-        ensures { λ r. ⌜ r ≡ found (nth (byte-home-meaning (K·Kind .reading) (now (self .entry)) .rows) key) ⌝ }
+        ensures row { λ r. ⌜ r ≡ found (nth (byte-home-meaning (K·Kind .reading) (now (self .entry)) .rows) key) ⌝ }
+        ensures sound { λ _. ⌜ Sound (byte-home-meaning (K·Kind .reading) (now (self .entry))) ⌝ }
     {
-        let bytes = &*self.bytes;
+        let bytes = &*self.table.bytes;
         match self.passed {
             true if (key as usize) < bytes.len() / ROW_BYTES => {
                 let row = row_at(bytes, key as usize);
@@ -100,6 +100,7 @@ impl<'a, K: Kind> ByteHome<'a, K> {
         ensures answer { λ r. ⌜ r ≡ answer-of (changed (byte-home-meaning (K·Kind .reading) (now (self .entry))) key change) ⌝ }
         ensures after { λ _. ⌜ byte-home-meaning (K·Kind .reading) (now (self .exit)) ≡ after (byte-home-meaning (K·Kind .reading) (now (self .entry))) key (changed (byte-home-meaning (K·Kind .reading) (now (self .entry))) key change) ⌝ }
         ensures memory { λ _. ⌜ byte-home-memory (now (self .exit)) ≡ byte-home-memory (now (self .entry)) ⌝ }
+        ensures sound { λ _. ⌜ Sound (byte-home-meaning (K·Kind .reading) (now (self .entry))) ⌝ }
     {
         change.check_place()?;
         let mut row = self.fetch(key)?;
@@ -110,11 +111,11 @@ impl<'a, K: Kind> ByteHome<'a, K> {
 
     // Stores a row where it was found.
     fn store(&mut self, key: u32, row: Row<K>)
-        requires within { ⌜ key < length (now (now self .bytes)) / 17 ⌝ }
+        requires within { ⌜ key < length (now (now self .table .bytes)) / 17 ⌝ }
         requires fair { ⌜ fair 4294967295 row ≡ true ⌝ }
-        ensures rows { λ _. ⌜ read-rows (K·Kind .reading) (now (now (self .exit) .bytes)) ≡ set (read-rows (K·Kind .reading) (now (now (self .entry) .bytes))) key row ⌝ }
-        ensures rest { λ _. ⌜ name (now (self .exit) .bytes) ≡ name (now (self .entry) .bytes) ⌝ ∗ ⌜ now (self .exit) .passed ≡ now (self .entry) .passed ⌝ }
+        ensures rows { λ _. ⌜ read-rows (K·Kind .reading) (now (now (self .exit) .table .bytes)) ≡ set (read-rows (K·Kind .reading) (now (now (self .entry) .table .bytes))) key row ⌝ }
+        ensures rest { λ _. ⌜ name (now (self .exit) .table .bytes) ≡ name (now (self .entry) .table .bytes) ⌝ ∗ ⌜ now (self .exit) .passed ≡ now (self .entry) .passed ⌝ }
     {
-        set_row(self.bytes, key as usize, words_of(row));
+        self.table.set_row(key as usize, words_of(row));
     }
 }
