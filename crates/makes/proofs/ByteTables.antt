@@ -50,6 +50,10 @@ module _ {V : Type 0} (read : ℕ → V) where
   pub length-read-rows : (bs : List ℕ) → length (read-rows read bs) ≡ length bs / 17
   length-read-rows bs = length-map (word-rows bs) (valued read) ∙ length-word-rows bs
 
+  pub few-bytes : (passed : Bool) (bs : List ℕ) → passed ≡ true → is-sound (table-meaning passed 4294967295 (word-rows bs)) ≡ true → length bs / 17 ≤ 65535
+  few-bytes true bs is ok = rw length-word-rows at (sound-parts (table-meaning true 4294967295 (word-rows bs)) ok .few)
+  few-bytes false bs is ok = absurd (let z : _≡_ {A = ℕ} 0 1 = cc in omega arith)
+
   nth-valued : (rows : List (Row ℕ)) (key : ℕ) (row : Row ℕ) → nth rows key ≡ Some row → nth (map (valued read) rows) key ≡ Some (valued read row)
   nth-valued [] key row at = absurd (let z : _≡_ {A = ℕ} 0 1 = cc in omega arith)
   nth-valued (r ∷ rows) zero row at = let same : r ≡ row = cc in ap (λ x. Some (valued read x)) same

@@ -1,3 +1,4 @@
 pub mod Tables
 pub mod Bytes
 pub mod ByteTables
+pub mod ByteOpening
