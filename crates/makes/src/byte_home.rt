@@ -17,6 +17,6 @@ pub use calls::ByteHomeCalls;
 pub struct ByteHome<'a, K> {
     table: ByteTable<'a>,
     passed: bool,
-    kind: [K; 0],
+    kind: Option<&'a K>,
     ghost sound: { is-sound (table-meaning passed 4294967295 (word-rows (now (table .bytes)))) ≡ true },
 }

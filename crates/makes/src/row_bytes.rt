@@ -21,7 +21,26 @@ pub const LAST: u64 = 4_294_967_295;
 pub fn split_row(bytes: &[u8]) -> Option<Row<u64>>
     ensures { λ r. ⌜ r ≡ cond (eqb (length (now (bytes .entry))) 17) (Some (word-row (now (bytes .entry)))) None ⌝ }
 {
-    let [w0, w1, w2, w3, w4, w5, w6, w7, a0, a1, a2, a3, b0, b1, b2, b3, holder] = bytes else {
+    let [
+        w0,
+        w1,
+        w2,
+        w3,
+        w4,
+        w5,
+        w6,
+        w7,
+        a0,
+        a1,
+        a2,
+        a3,
+        b0,
+        b1,
+        b2,
+        b3,
+        holder,
+    ] = bytes
+    else {
         return None;
     };
     Some(Row {
@@ -41,7 +60,23 @@ pub fn join_row(row: Row<u64>) -> [u8; 17]
     let [a0, a1, a2, a3] = (row.wts as u32).to_be_bytes();
     let [b0, b1, b2, b3] = (row.rts as u32).to_be_bytes();
     [
-        w0, w1, w2, w3, w4, w5, w6, w7, a0, a1, a2, a3, b0, b1, b2, b3, row.holder as u8,
+        w0,
+        w1,
+        w2,
+        w3,
+        w4,
+        w5,
+        w6,
+        w7,
+        a0,
+        a1,
+        a2,
+        a3,
+        b0,
+        b1,
+        b2,
+        b3,
+        row.holder as u8,
     ]
 }
 
@@ -113,6 +148,7 @@ impl<'a> ByteTable<'a> {
         ensures rest { λ _. ⌜ name (now (self .exit) .bytes) ≡ name (now (self .entry) .bytes) ⌝ }
     {
         let at = key * ROW_BYTES;
-        self.bytes[at..at + ROW_BYTES].copy_from_slice(&join_row(row));
+        self.bytes[at..at + ROW_BYTES]
+            .copy_from_slice(&join_row(row));
     }
 }

@@ -8,9 +8,9 @@ ghost use Rattle.makes.specs.Bytes.{byte-check, byte-flaw, byte-opened, word-r
 ghost use Rattle.makes.specs.ByteHomes.{byte-home-meaning};
 use super::ByteHome;
 use crate::opening::check_size;
+use crate::row_bytes::ByteTable;
 use crate::row_bytes::LAST;
 use crate::row_bytes::ROW_BYTES;
-use crate::row_bytes::ByteTable;
 use crate::row_bytes::row_at;
 use home::Fault;
 use home::Flaw;
@@ -36,7 +36,7 @@ impl<'a, K: Kind> ByteHome<'a, K> {
         ByteHome {
             table: ByteTable { bytes },
             passed,
-            kind: [],
+            kind: None,
         }
     }
 }
