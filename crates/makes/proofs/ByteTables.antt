@@ -1,16 +1,18 @@
 -- The rows of a byte home: what its bytes say of them, whatever the words are read as.
-use Prim.Native.Nat.{ℕ, zero, suc, _+_, _/_, _<_, _≤_}
+use Prim.Native.Nat.{ℕ, zero, suc, _*_, _/_, _<_, _≤_}
 use mathlib.Core.Path.{_≡_, refl, ap, sym, subst, _∙_}
 use mathlib.Core.List.{List, [], _∷_, map}
 use mathlib.Core.Bool.{Bool, true, false, cond, _&&_}
 use native.Mathlib.Omega.{arith}
 use lib.Dec.{leb}
 use lib.ListN.{length, set}
+use lib.Seq.{paste}
 use Rattle.std.specs.Finite.{nth}
 use Rattle.std.specs.declared.option.Option.{Option}
 use Rattle.std.specs.declared.option.Option.the-variants.{Some, None}
 use Rattle.std.specs.declared.result.Result.the-variants.{Ok, Err}
 use Rattle.std.proofs.shelf.Lists.{length-map, length-set, map-set}
+use Rattle.std.proofs.shelf.Parts.{putMid-paste}
 use Rattle.std.proofs.shelf.Maps.{nth-getD, nth-past}
 use Rattle.std.proofs.shelf.Ways.{tells}
 use Rattle.home.specs.declared.row.Row.{Row}
@@ -19,9 +21,9 @@ use Rattle.home.specs.Rows.{amended, row-after}
 use Rattle.home.specs.Meaning.{Meaning, Sound, all-fair, checked-place, fair, found, is-sound, well-placed}
 use Rattle.home.proofs.Rows.{amended-fair}
 use Rattle.home.proofs.Calls.{fair-at, fair-set, parts-sound, sound-parts}
-use Rattle.makes.specs.Bytes.{has-room, read-rows, row-at, valued, word-rows}
+use Rattle.makes.specs.Bytes.{has-room, read-rows, row-at, row-bytes, valued, word-row, word-rows}
 use Rattle.makes.specs.Opening.{table-meaning}
-use Rattle.makes.proofs.Bytes.{getD-word-rows, length-word-rows}
+use Rattle.makes.proofs.Bytes.{getD-word-rows, length-row-bytes, length-word-rows, word-row-bytes, word-rows-set}
 use Rattle.makes.proofs.Tables.{in-table}
 
 -- ---- what does not depend on the values
@@ -75,15 +77,27 @@ module _ {V : Type 0} (read : ℕ → V) where
       let again : valued read (valued packed row) ≡ row = ap (λ v. valued (λ _. v) row) own in
       ap (map (valued read)) wrote ∙ map-set (valued read) (word-rows bs) key (valued packed row) ∙ ap (set (read-rows read bs) key) again
 
-pub fair-stored : (passed : Bool) (rows : List (Row ℕ)) (key : ℕ) (row : Row ℕ) → is-sound (table-meaning passed 4294967295 rows) ≡ true → fair 4294967295 row ≡ true → is-sound (table-meaning passed 4294967295 (set rows key row)) ≡ true
-fair-stored true rows key row ok new =
+-- a row written byte by byte
+pub pasted-rows : (bs new : List ℕ) (key i : ℕ) (row : Row ℕ) → key < length bs / 17 → i ≡ 17 → new ≡ row-bytes row → row .value < 18446744073709551616 → has-room row ≡ true → word-rows (paste bs (key * 17) new i) ≡ set (word-rows bs) key row
+pasted-rows bs new key i row within whole is small room =
+    let long : length new ≡ 17 = ap length is ∙ length-row-bytes row in
+    let same = putMid-paste (key * 17) i bs new new i refl refl (whole ∙ sym long) in
+    ap word-rows (sym same) ∙ word-rows-set bs new key i within long whole row (ap word-row is ∙ word-row-bytes row small room)
+
+-- a home with no keys is sound, whatever its bytes
+pub no-keys-sound : (passed : Bool) (rows : List (Row ℕ)) → passed ≡ false → is-sound (table-meaning passed 4294967295 rows) ≡ true
+no-keys-sound true rows is = absurd (let z : _≡_ {A = ℕ} 0 1 = cc in omega arith)
+no-keys-sound false rows is = refl
+
+pub fair-stored : (passed : Bool) (rows : List (Row ℕ)) (key : ℕ) (row : Row ℕ) → passed ≡ true → is-sound (table-meaning passed 4294967295 rows) ≡ true → fair 4294967295 row ≡ true → is-sound (table-meaning true 4294967295 (set rows key row)) ≡ true
+fair-stored true rows key row is ok new =
     let s = sound-parts (table-meaning true 4294967295 rows) ok in
     parts-sound (table-meaning true 4294967295 (set rows key row)) (record {
       few = rw length-set (s .few);
       ends = s .ends;
       rows = fair-set 4294967295 rows key row (s .rows) new;
     })
-fair-stored false rows key row ok new = ok
+fair-stored false rows key row is ok new = absurd (let z : _≡_ {A = ℕ} 0 1 = cc in omega arith)
 
 pub fair-room : {V : Type 0} (row : Row V) → fair 4294967295 row ≡ true → has-room row ≡ true
 fair-room row ok = grind (arith, tells)

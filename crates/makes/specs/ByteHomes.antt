@@ -10,8 +10,8 @@ use Rattle.makes.specs.Opening.{table-meaning}
 use Rattle.makes.specs.declared.byte_home.ByteHome.{ByteHome}
 
 abbrev pub byte-home-meaning : {V : Type 0} → (ℕ → V) → ByteHome V → Meaning V
-byte-home-meaning read h = table-meaning (h .passed) 4294967295 (read-rows read (now (h .table .bytes)))
+byte-home-meaning read h = table-meaning (h .passed) 4294967295 (read-rows read (now (h .bytes)))
 
 -- The caller's bytes; where the home has no keys, all of them are left alone.
 abbrev pub byte-home-memory : {V : Type 0} → ByteHome V → Memory V
-byte-home-memory h = in-bytes (name (h .table .bytes)) (cond (h .passed) [] (now (h .table .bytes)))
+byte-home-memory h = in-bytes (name (h .bytes)) (cond (h .passed) [] (now (h .bytes)))

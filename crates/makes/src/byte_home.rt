@@ -5,7 +5,6 @@ ghost use denote.Ref.{now};
 ghost use Rattle.home.specs.Meaning.{is-sound};
 ghost use Rattle.makes.specs.Bytes.{word-rows};
 ghost use Rattle.makes.specs.Opening.{table-meaning};
-use crate::row_bytes::ByteTable;
 
 mod calls;
 mod making;
@@ -15,8 +14,8 @@ pub use calls::ByteHomeCalls;
 // A home in a table of bytes. One that failed its check has no keys.
 #[derive(Drop)]
 pub struct ByteHome<'a, K> {
-    table: ByteTable<'a>,
+    bytes: &'a mut [u8],
     passed: bool,
     kind: Option<&'a K>,
-    ghost sound: { is-sound (table-meaning passed 4294967295 (word-rows (now (table .bytes)))) ≡ true },
+    ghost sound: { is-sound (table-meaning passed 4294967295 (word-rows (now bytes))) ≡ true },
 }

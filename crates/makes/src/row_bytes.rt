@@ -2,12 +2,11 @@
 ghost use mathlib.Core.Path.{_≡_};
 ghost use mathlib.Core.Bool.{cond, true, false};
 ghost use Prim.Native.Nat.{_<_, _/_};
-ghost use denote.Ref.{name};
 ghost use lib.Dec.{eqb};
-ghost use lib.ListN.{length, set};
+ghost use lib.ListN.{length};
 ghost use Rattle.std.specs.Options.{Cases as BySome};
 ghost use Rattle.std.specs.declared.option.Option.the-variants.{Some, None};
-ghost use Rattle.makes.specs.Bytes.{has-room, row-at, row-bytes, row-packed, row-unpacked, valued, word-row, word-rows};
+ghost use Rattle.makes.specs.Bytes.{has-room, row-at, row-bytes, row-packed, row-unpacked, valued, word-row};
 use home::Row;
 use kinds::Kind;
 
@@ -130,25 +129,4 @@ pub fn unpack_row<K: Kind>(bytes: &[u8]) -> Option<Row<K>>
     let row = split_row(bytes)?;
     let value = K::unpack(row.value)?;
     Some(revalued(row, value))
-}
-
-// The caller's bytes as a table of rows. It is a struct of its own since a part of a slice can be lent only
-// where no condition hangs on what the slice holds; those are the home's.
-#[derive(Drop)]
-pub struct ByteTable<'a> {
-    pub bytes: &'a mut [u8],
-}
-
-impl<'a> ByteTable<'a> {
-    // Puts a row in the place of the one that a key has.
-    pub fn set_row(&mut self, key: usize, row: Row<u64>)
-        requires within { ⌜ key < length (now (now self .bytes)) / 17 ⌝ }
-        requires room { ⌜ has-room row ≡ true ⌝ }
-        ensures rows { λ _. ⌜ word-rows (now (now (self .exit) .bytes)) ≡ set (word-rows (now (now (self .entry) .bytes))) key row ⌝ }
-        ensures rest { λ _. ⌜ name (now (self .exit) .bytes) ≡ name (now (self .entry) .bytes) ⌝ }
-    {
-        let at = key * ROW_BYTES;
-        self.bytes[at..at + ROW_BYTES]
-            .copy_from_slice(&join_row(row));
-    }
 }

@@ -12,6 +12,7 @@ ghost use Rattle.makes.specs.ByteHomes.{byte-home-meaning, byte-home-memory};
 use super::ByteHome;
 use crate::row_bytes::LAST;
 use crate::row_bytes::ROW_BYTES;
+use crate::row_bytes::join_row;
 use crate::row_bytes::revalued;
 use crate::row_bytes::row_at;
 use crate::row_bytes::words_of;
@@ -33,7 +34,7 @@ pub impl<'a, K: Kind> Home for ByteHome<'a, K> as ByteHomeCalls {
 
     fn count(&self) -> u32 {
         if self.passed {
-            (self.table.bytes.len() / ROW_BYTES) as u32
+            (self.bytes.len() / ROW_BYTES) as u32
         } else {
             0
         }
@@ -85,7 +86,7 @@ impl<'a, K: Kind> ByteHome<'a, K> {
         ensures row { λ r. ⌜ r ≡ found (nth (byte-home-meaning (K·Kind .reading) (now (self .entry)) .rows) key) ⌝ }
         ensures sound { λ _. ⌜ Sound (byte-home-meaning (K·Kind .reading) (now (self .entry))) ⌝ }
     {
-        let bytes = &*self.table.bytes;
+        let bytes = &*self.bytes;
         match self.passed {
             true if (key as usize) < bytes.len() / ROW_BYTES => {
                 let row = row_at(bytes, key as usize);
@@ -109,13 +110,21 @@ impl<'a, K: Kind> ByteHome<'a, K> {
         Ok(lease)
     }
 
-    // Stores a row where it was found.
+    // Stores a row where it was found. While a part of it is written the home has no keys, since the row
+    // may then be none that a home has.
     fn store(&mut self, key: u32, row: Row<K>)
-        requires within { ⌜ key < length (now (now self .table .bytes)) / 17 ⌝ }
+        requires passed { ⌜ now self .passed ≡ true ⌝ }
+        requires within { ⌜ key < length (now (now self .bytes)) / 17 ⌝ }
         requires fair { ⌜ fair 4294967295 row ≡ true ⌝ }
-        ensures rows { λ _. ⌜ read-rows (K·Kind .reading) (now (now (self .exit) .table .bytes)) ≡ set (read-rows (K·Kind .reading) (now (now (self .entry) .table .bytes))) key row ⌝ }
-        ensures rest { λ _. ⌜ name (now (self .exit) .table .bytes) ≡ name (now (self .entry) .table .bytes) ⌝ ∗ ⌜ now (self .exit) .passed ≡ now (self .entry) .passed ⌝ }
+        ensures rows { λ _. ⌜ read-rows (K·Kind .reading) (now (now (self .exit) .bytes)) ≡ set (read-rows (K·Kind .reading) (now (now (self .entry) .bytes))) key row ⌝ }
+        ensures rest { λ _. ⌜ name (now (self .exit) .bytes) ≡ name (now (self .entry) .bytes) ⌝ ∗ ⌜ now (self .exit) .passed ≡ now (self .entry) .passed ⌝ }
     {
-        self.table.set_row(key as usize, words_of(row));
+        let at = key as usize * ROW_BYTES;
+        let new = join_row(words_of(row));
+        self.passed = false;
+        for i in 0..ROW_BYTES {
+            self.bytes[at + i] = new[i];
+        }
+        self.passed = true;
     }
 }

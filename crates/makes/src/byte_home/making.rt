@@ -8,7 +8,6 @@ ghost use Rattle.makes.specs.Bytes.{byte-check, byte-flaw, byte-opened, word-r
 ghost use Rattle.makes.specs.ByteHomes.{byte-home-meaning};
 use super::ByteHome;
 use crate::opening::check_size;
-use crate::row_bytes::ByteTable;
 use crate::row_bytes::LAST;
 use crate::row_bytes::ROW_BYTES;
 use crate::row_bytes::row_at;
@@ -30,11 +29,11 @@ impl<'a, K: Kind> ByteHome<'a, K> {
     // The home works in the bytes themselves, and alters none by being made.
     pub fn make(bytes: &'a mut [u8]) -> ByteHome<'a, K>
         ensures meaning { λ r. ⌜ byte-home-meaning (K·Kind .reading) r ≡ byte-opened (K·Kind .unpacked) (now (bytes .entry)) ⌝ }
-        ensures table { λ r. ⌜ name (r .table .bytes) ≡ name (bytes .entry) ⌝ ∗ ⌜ now (r .table .bytes) ≡ now (bytes .entry) ⌝ }
+        ensures table { λ r. ⌜ name (r .bytes) ≡ name (bytes .entry) ⌝ ∗ ⌜ now (r .bytes) ≡ now (bytes .entry) ⌝ }
     {
         let passed = ByteHome::<K>::check(bytes).is_ok();
         ByteHome {
-            table: ByteTable { bytes },
+            bytes,
             passed,
             kind: None,
         }

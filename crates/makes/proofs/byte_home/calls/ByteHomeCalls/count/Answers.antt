@@ -12,21 +12,21 @@ use Rattle.makes.proofs.byte_home.calls.ByteHomeCalls.count.Needs as need
 pub cast-result : need.cast-result
 cast-result g c =
     let t = c .args .self .now in
-    let few : length (t .table .bytes .now) / 17 ≤ 65535 = few-bytes (g .K·Kind .reading) (t .passed) (t .table .bytes .now) (c .if-self .taken) (t .sound) in
+    let few : length (t .bytes .now) / 17 ≤ 65535 = few-bytes (g .K·Kind .reading) (t .passed) (t .bytes .now) (c .if-self .taken) (t .sound) in
     omega arith
 
 pub returns-then-self : need.returns-then-self
 returns-then-self g c =
     let t = c .args .self .now in
     let read = g .K·Kind .reading in
-    let rows : length (cond (t .passed) (read-rows read (t .table .bytes .now)) []) ≡ length (t .table .bytes .now) / 17 = ap (λ b. length (cond b (read-rows read (t .table .bytes .now)) [])) (c .if-self .taken) ∙ length-read-rows read (t .table .bytes .now) in
+    let rows : length (cond (t .passed) (read-rows read (t .bytes .now)) []) ≡ length (t .bytes .now) / 17 = ap (λ b. length (cond b (read-rows read (t .bytes .now)) [])) (c .if-self .taken) ∙ length-read-rows read (t .bytes .now) in
     record {
       answer = sym rows;
-      sound = bytes-sound read (t .passed) (t .table .bytes .now) (t .sound);
+      sound = bytes-sound read (t .passed) (t .bytes .now) (t .sound);
     }
 
 pub returns-else-self : need.returns-else-self
 returns-else-self g c =
     let t = c .args .self .now in
-    let s = bytes-sound (g .K·Kind .reading) (t .passed) (t .table .bytes .now) (t .sound) in
+    let s = bytes-sound (g .K·Kind .reading) (t .passed) (t .bytes .now) (t .sound) in
     search needs

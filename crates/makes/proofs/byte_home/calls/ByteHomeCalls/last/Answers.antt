@@ -7,5 +7,5 @@ returns g c =
     let t = c .args .self .now in
     record {
       answer = refl;
-      sound = bytes-sound (g .K·Kind .reading) (t .passed) (t .table .bytes .now) (t .sound);
+      sound = bytes-sound (g .K·Kind .reading) (t .passed) (t .bytes .now) (t .sound);
     }
