@@ -17,8 +17,14 @@ pub trait Kind: Copy {
     // The value of a word, where it has one.
     ghost unpacked: { ℕ → Option Self };
 
+    // What a word is read as by one who knows that it has a value.
+    ghost reading: { ℕ → Self };
+
     // Where a word has a value, that value has the word.
     law back: { (w : ℕ) (x : Self) → w < 2 ^ 64 → unpacked w ≡ Some x → packed x ≡ w };
+
+    // Where a word has a value, it is read as that value.
+    law right: { (w : ℕ) (x : Self) → unpacked w ≡ Some x → reading w ≡ x };
 
     // The code of the kind.
     fn kind_code() -> u8
@@ -32,4 +38,8 @@ pub trait Kind: Copy {
     // The value that the word stands for, or none.
     fn unpack(word: u64) -> Option<Self>
         ensures { λ r. ⌜ r ≡ unpacked word ⌝ };
+
+    // The value of a word that is known to have one; of another word, some value.
+    fn read(word: u64) -> Self
+        ensures { λ r. ⌜ r ≡ reading word ⌝ };
 }

@@ -1,6 +1,6 @@
 ghost use mathlib.Core.Path.{_≡_};
 ghost use Rattle.std.specs.Options.{isSome};
-ghost use Rattle.kinds.specs.Words.{node-word, node-value, node-of, is-node-word, day-of};
+ghost use Rattle.kinds.specs.Words.{node-word, node-value, node-reading, node-of, is-node-word, day-of};
 use crate::kind::Kind;
 
 // A point of an interest-rate curve.
@@ -61,6 +61,8 @@ pub impl Kind for Node as NodeKind {
 
     ghost unpacked = { node-value };
 
+    ghost reading = { node-reading };
+
     fn kind_code() -> u8 {
         Self::CODE
     }
@@ -77,5 +79,15 @@ pub impl Kind for Node as NodeKind {
         let day = word / 4_294_967_296;
         let rate = word % 4_294_967_296;
         Node::new(day as u32, (rate as u32).cast_signed())
+    }
+
+    // A day past the sixteen bits loses what is above them.
+    fn read(word: u64) -> Node {
+        let day = word / 4_294_967_296;
+        let rate = word % 4_294_967_296;
+        Node {
+            day_less_one: (day.saturating_sub(1) % 65_536) as u16,
+            rate: (rate as u32).cast_signed(),
+        }
     }
 }

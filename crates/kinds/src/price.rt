@@ -1,4 +1,4 @@
-ghost use Rattle.kinds.specs.Words.{price-word, price-value};
+ghost use Rattle.kinds.specs.Words.{price-word, price-value, price-reading};
 use crate::kind::Kind;
 
 // A price: a signed count of ticks.
@@ -16,6 +16,8 @@ pub impl Kind for Price as PriceKind {
 
     ghost unpacked = { price-value };
 
+    ghost reading = { price-reading };
+
     fn kind_code() -> u8 {
         Self::CODE
     }
@@ -25,8 +27,12 @@ pub impl Kind for Price as PriceKind {
     }
 
     fn unpack(word: u64) -> Option<Price> {
-        Some(Price {
+        Some(Price::read(word))
+    }
+
+    fn read(word: u64) -> Price {
+        Price {
             ticks: word.cast_signed(),
-        })
+        }
     }
 }

@@ -1,2 +1,5 @@
 pub mod Splits
 pub mod Tables
+pub mod Bytes
+pub mod ByteTables
+pub mod ByteOpening

@@ -1,3 +1,5 @@
+pub mod ByteHomes
+pub mod Bytes
 pub mod Opening
 pub mod RowHomes
 pub mod Splits

@@ -1,0 +1,20 @@
+use mathlib.Core.Path.{_≡_, refl, ap, _∙_}
+use Rattle.std.specs.Results.{isOk}
+use Rattle.makes.specs.Bytes.{byte-check}
+use Rattle.makes.proofs.ByteOpening.{opened}
+use Rattle.makes.proofs.byte_home.ByteHome.make.Needs as need
+
+pub ghost-result : need.ghost-result
+ghost-result g c =
+    let kind = g .K·Kind in
+    let passed : c .is-ok-passed .result ≡ isOk (byte-check (kind .unpacked) (c .args .bytes .now)) = c .is-ok-passed .ensures .value ∙ ap isOk (c .check .ensures) in
+    (opened (kind .unpacked) (kind .reading) (g .K·Kind·met .right) (c .args .bytes .now) _ passed .0, tt)
+
+pub returns : need.returns
+returns g c =
+    let kind = g .K·Kind in
+    let passed : c .is-ok-passed .result ≡ isOk (byte-check (kind .unpacked) (c .args .bytes .now)) = c .is-ok-passed .ensures .value ∙ ap isOk (c .check .ensures) in
+    record {
+      meaning = opened (kind .unpacked) (kind .reading) (g .K·Kind·met .right) (c .args .bytes .now) _ passed .1;
+      table = (refl, refl);
+    }
