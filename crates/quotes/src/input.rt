@@ -2,10 +2,13 @@
 use crate::order::Order;
 use home::Row;
 use kinds::Node;
+use makes::pack_row;
 use std::alloc::AllocError;
 use std::alloc::Global;
+use std::alloc::Refused;
 use std::str::FromStr;
 use std::str::SplitWhitespace;
+use kinds::NodeKind;
 
 // One line of the text.
 #[derive(Clone, Copy)]
@@ -51,6 +54,67 @@ pub fn read_line(line: &str) -> Option<Line> {
         None => Some(read),
         Some(_) => None,
     }
+}
+
+// A morning's text, read: the curve in two tables, with every lease from 0 to 0, and what to do.
+#[derive(Drop)]
+pub struct Curve {
+    pub near: Vec<Row<Node>>,
+    pub far: Vec<u8>,
+    pub orders: Vec<Order>,
+}
+
+// Why a text could not be read.
+#[derive(Drop)]
+pub enum Unread {
+    // This line is no line of a morning.
+    BadLine(usize),
+    NoMemory,
+}
+
+impl From<AllocError> for Unread as UnreadAlloc {
+    fn from(_: AllocError) -> Unread {
+        Unread::NoMemory
+    }
+}
+
+impl<T: Drop> From<Refused<T>> for Unread as UnreadRefused {
+    fn from(_: Refused<T>) -> Unread {
+        Unread::NoMemory
+    }
+}
+
+// Reads the whole text, a line each.
+pub fn read_curve(heap: Global, text: &str) -> Result<Curve, Unread> {
+    let mut curve = Curve { near: Vec::new(heap), far: Vec::new(heap), orders: Vec::new(heap) };
+    for (above, line) in text.lines().enumerate() {
+        match read_line(line) {
+            Some(read) => curve.add(read)?,
+            None => return Err(Unread::BadLine(above.saturating_add(1))),
+        }
+    }
+    Ok(curve)
+}
+
+impl Curve {
+    // Takes in what one line says.
+    fn add(&mut self, line: Line) -> Result<(), Unread> {
+        match line {
+            Line::Near(node) => self.near.push(fresh(node))?,
+            Line::Far(node) => {
+                if let Some(bytes) = pack_row(fresh(node)) {
+                    self.far.extend_from_slice(&bytes)?;
+                }
+            }
+            Line::Order(order) => self.orders.push(order)?,
+        }
+        Ok(())
+    }
+}
+
+// A node that nobody holds, with its lease at the beginning of time.
+fn fresh(node: Node) -> Row<Node> {
+    Row { value: node, wts: 0, rts: 0, holder: 0 }
 }
 
 // The next word, as a number.

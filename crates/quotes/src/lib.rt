@@ -5,7 +5,10 @@ mod order;
 mod serve;
 mod tally;
 
+pub use input::Curve;
 pub use input::Line;
+pub use input::Unread;
+pub use input::read_curve;
 pub use input::read_line;
 pub use morning::serve_all;
 pub use order::Order;
