@@ -1,11 +1,15 @@
 // The opening of a row home: its check and its making.
 ghost use mathlib.Core.Path.{_≡_};
+ghost use mathlib.Core.Bool.{cond};
+ghost use mathlib.Core.List.{[]};
 ghost use Prim.Native.Nat.{_≤_};
 ghost use denote.Ref.{name};
 ghost use lib.ListN.{length};
+ghost use Rattle.std.specs.Results.{isOk};
+ghost use Rattle.home.specs.Memory.{in-rows};
 ghost use Rattle.home.specs.Opening.{first-bad, row-flaw};
 ghost use Rattle.makes.specs.Opening.{row-check, row-opened};
-ghost use Rattle.makes.specs.RowHomes.{row-home-meaning};
+ghost use Rattle.makes.specs.RowHomes.{row-home-meaning, row-home-memory};
 use super::RowHome;
 use crate::opening::MAX_LAST;
 use crate::opening::check_size;
@@ -26,6 +30,7 @@ impl<'a, V: Copy> RowHome<'a, V> {
     pub fn make(rows: &'a mut [Row<V>], last: u64) -> RowHome<'a, V>
         ensures meaning { λ r. ⌜ row-home-meaning r ≡ row-opened last (now (rows .entry)) ⌝ }
         ensures table { λ r. ⌜ name (r .rows) ≡ name (rows .entry) ⌝ ∗ ⌜ now (r .rows) ≡ now (rows .entry) ⌝ }
+        ensures memory { λ r. ⌜ row-home-memory r ≡ in-rows (name (rows .entry)) (cond (isOk (row-check last (now (rows .entry)))) [] (now (rows .entry))) ⌝ }
     {
         if RowHome::check(rows, last).is_err() {
             return RowHome {
