@@ -72,6 +72,7 @@ module _ {V : Type 0} (unpacked : ℕ → Option V) (read : ℕ → V) (right : 
   by-size false bs size ok = absurd (let z : _≡_ {A = ℕ} 0 1 = cc in omega arith)
 
   by-check : (bs : List ℕ) (r : Result (Unit {0}) Fault) (passed : Bool) → byte-check unpacked bs ≡ r → passed ≡ isOk r → (is-sound (table-meaning passed 4294967295 (word-rows bs)) ≡ true) × (table-meaning passed 4294967295 (read-rows read bs) ≡ byte-made unpacked bs r)
+  unfolding byte-check
   by-check bs (Ok x) true is ok =
       let h = by-size _ bs refl is in
       (h .0, ap (λ rs. record { last = 4294967295; rows = rs }) (sym (h .1)))

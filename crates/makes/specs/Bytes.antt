@@ -92,7 +92,7 @@ abbrev pub byte-flaw : {V : Type 0} → (ℕ → Option V) → Row ℕ → Optio
 byte-flaw unpacked row = or-flaw (row-flaw 4294967295 row) (word-flaw (unpacked (row .value)))
 
 -- 16 for bytes that are no multiple of 17 or a count outside 1 to 65,535; then 17.
-abbrev pub byte-check : {V : Type 0} → (ℕ → Option V) → List ℕ → Result (Unit {0}) Fault
+unfoldable pub byte-check : {V : Type 0} → (ℕ → Option V) → List ℕ → Result (Unit {0}) Fault
 byte-check unpacked bs = after-size (is-count (length bs / 17) && eqb (length bs % 17) 0) (first-bad (byte-flaw unpacked) 0 (word-rows bs))
 
 abbrev pub or-skip : {V : Type 0} → Option (Row V) → List (Row V) → List (Row V)

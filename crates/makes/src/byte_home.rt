@@ -5,6 +5,7 @@ ghost use denote.Ref.{now};
 ghost use Rattle.home.specs.Meaning.{is-sound};
 ghost use Rattle.makes.specs.Bytes.{word-rows};
 ghost use Rattle.makes.specs.Opening.{table-meaning};
+use std::marker::PhantomData;
 
 mod calls;
 mod making;
@@ -16,6 +17,6 @@ pub use calls::ByteHomeCalls;
 pub struct ByteHome<'a, K> {
     bytes: &'a mut [u8],
     passed: bool,
-    kind: Option<&'a K>,
+    kind: PhantomData<K>,
     ghost sound: { is-sound (table-meaning passed 4294967295 (word-rows (now bytes))) ≡ true },
 }

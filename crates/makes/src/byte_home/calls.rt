@@ -103,6 +103,8 @@ impl<'a, K: Kind> ByteHome<'a, K> {
         ensures memory { λ _. ⌜ byte-home-memory (now (self .exit)) ≡ byte-home-memory (now (self .entry)) ⌝ }
         ensures sound { λ _. ⌜ Sound (byte-home-meaning (K·Kind .reading) (now (self .entry))) ⌝ }
     {
+        // The checker lends the home on only where it has seen the type of each field.
+        let _kind = self.kind;
         change.check_place()?;
         let mut row = self.fetch(key)?;
         let lease = row.amend(change, LAST)?;

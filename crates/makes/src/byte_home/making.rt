@@ -3,6 +3,7 @@ ghost use mathlib.Core.Path.{_≡_};
 ghost use Prim.Native.Nat.{_≤_, _/_};
 ghost use denote.Ref.{name};
 ghost use lib.ListN.{length};
+ghost use Rattle.std.specs.Results.{isOk};
 ghost use Rattle.home.specs.Opening.{first-bad};
 ghost use Rattle.makes.specs.Bytes.{byte-check, byte-flaw, byte-opened, word-rows};
 ghost use Rattle.makes.specs.ByteHomes.{byte-home-meaning};
@@ -15,6 +16,7 @@ use home::Fault;
 use home::Flaw;
 use home::Row;
 use kinds::Kind;
+use std::marker::PhantomData;
 
 impl<'a, K: Kind> ByteHome<'a, K> {
     // Tests bytes that a home is to be made of. Refuses 16, 17.
@@ -29,13 +31,14 @@ impl<'a, K: Kind> ByteHome<'a, K> {
     // The home works in the bytes themselves, and alters none by being made.
     pub fn make(bytes: &'a mut [u8]) -> ByteHome<'a, K>
         ensures meaning { λ r. ⌜ byte-home-meaning (K·Kind .reading) r ≡ byte-opened (K·Kind .unpacked) (now (bytes .entry)) ⌝ }
+        ensures passed { λ r. ⌜ r .passed ≡ isOk (byte-check (K·Kind .unpacked) (now (bytes .entry))) ⌝ }
         ensures table { λ r. ⌜ name (r .bytes) ≡ name (bytes .entry) ⌝ ∗ ⌜ now (r .bytes) ≡ now (bytes .entry) ⌝ }
     {
         let passed = ByteHome::<K>::check(bytes).is_ok();
         ByteHome {
             bytes,
             passed,
-            kind: None,
+            kind: PhantomData,
         }
     }
 }

@@ -16,5 +16,6 @@ returns g c =
     let passed : c .is-ok-passed .result ≡ isOk (byte-check (kind .unpacked) (c .args .bytes .now)) = c .is-ok-passed .ensures .value ∙ ap isOk (c .check .ensures) in
     record {
       meaning = opened (kind .unpacked) (kind .reading) (g .K·Kind·met .right) (c .args .bytes .now) _ passed .1;
+      passed = passed;
       table = (refl, refl);
     }
