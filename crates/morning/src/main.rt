@@ -19,7 +19,10 @@ fn main(rt: LibcRuntime) -> Result<(), AnyError> {
     let mut curve = match read_curve(rt.alloc(), text.as_str())? {
         Ok(curve) => curve,
         Err(number) => {
-            println!(rt, "line {number} is none of near, far, quote, withdraw, take, release, keep")?;
+            println!(
+                rt,
+                "line {number} is none of near, far, quote, withdraw, take, release, keep"
+            )?;
             return Ok(());
         }
     };

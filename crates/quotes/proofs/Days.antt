@@ -7,11 +7,12 @@ use native.Mathlib.Omega.{arith}
 use lib.Dec.{eqb}
 use lib.ListN.{length, drop, getD}
 use Rattle.std.proofs.shelf.Lists.{drop-more, drop-all}
+use Rattle.std.specs.Results.{isOk}
 use Rattle.std.specs.declared.result.Result.{Result}
 use Rattle.std.specs.declared.result.Result.the-variants.{Ok, Err}
 use Rattle.home.specs.declared.fault.Fault.{Fault}
 use Rattle.home.specs.Meaning.{Meaning}
-use Rattle.home.specs.Memory.{Memory, Parts, idle, in-two, parted}
+use Rattle.home.specs.Memory.{Memory, Parts, idle, in-bytes, in-rows, in-two, parted}
 use Rattle.home.specs.Opening.{is-count}
 use Rattle.home.specs.declared.row.Row.{Row}
 use Rattle.kinds.specs.Words.{node-reading, node-value}
@@ -44,27 +45,34 @@ day-all d orders i past = ap (day d) (drop-all i orders past)
 pub two-parts : (a a′ b b′ : ℕ) (m m′ n n′ : Memory Node) (p p′ : Parts Node) → in-two a m b n p ≡ in-two a′ m′ b′ n′ p′ → (a ≡ a′) × (m ≡ m′) × (b ≡ b′) × (n ≡ n′) × (p ≡ p′)
 two-parts a a′ b b′ m m′ n n′ p p′ is = (cc, (cc), (cc), (cc), (cc))
 
+-- what of a table no call alters: nothing, where the check passed
+pub rows-free : (a b : ℕ) (kept near : List (Row Node)) (check : Result (Unit {0}) Fault) (x : Unit {0}) → in-rows a kept ≡ in-rows b (cond (isOk check) [] near) → check ≡ Ok x → kept ≡ []
+rows-free a b kept near check x is ok = let h : kept ≡ cond (isOk check) [] near = cc in h ∙ ap (λ c. cond (isOk c) [] near) ok
+
+pub bytes-free : (a b : ℕ) (kept far : List ℕ) (check : Result (Unit {0}) Fault) (x : Unit {0}) → _≡_ {A = Memory Node} (in-bytes a kept) (in-bytes b (cond (isOk check) [] far)) → check ≡ Ok x → kept ≡ []
+bytes-free a b kept far check x is ok = let h : kept ≡ cond (isOk check) [] far = cc in h ∙ ap (λ c. cond (isOk c) [] far) ok
+
 -- the check of the split, as the test that its meaning rests on
 fits-from-check : (l r : Meaning Node) (x : Unit {0}) → split-check l r ≡ Ok x → split-fits l r ≡ true
 fits-from-check l r x ok = by-size (is-count (split-size l r)) (eqb (l .last) (r .last)) ok
   where
-  by-size : (a b : Bool) → after-size a (cond b (Ok tt) (Err two-lasts)) ≡ Ok x → (a && b) ≡ true
-  by-size true true ok = refl
-  by-size true false ok = absurd (let z : _≡_ {A = ℕ} 0 1 = cc in omega arith)
-  by-size false true ok = absurd (let z : _≡_ {A = ℕ} 0 1 = cc in omega arith)
-  by-size false false ok = absurd (let z : _≡_ {A = ℕ} 0 1 = cc in omega arith)
+    by-size : (a b : Bool) → after-size a (cond b (Ok tt) (Err two-lasts)) ≡ Ok x → (a && b) ≡ true
+    by-size true true ok = refl
+    by-size true false ok = absurd (let z : _≡_ {A = ℕ} 0 1 = cc in omega arith)
+    by-size false true ok = absurd (let z : _≡_ {A = ℕ} 0 1 = cc in omega arith)
+    by-size false false ok = absurd (let z : _≡_ {A = ℕ} 0 1 = cc in omega arith)
 
 -- two homes that were parted still are, so that the whole has the rows of both
 both-rows : (l l′ r r′ : Meaning Node) → split-fits l r ≡ true → split-parts l′ r′ ≡ split-parts l r → split-meaning l′ r′ .rows ≡ l′ .rows ++ r′ .rows
 both-rows l l′ r r′ fits same = by-fit (split-fits l′ r′) refl
   where
-  by-fit : (b : Bool) → split-fits l′ r′ ≡ b → cond b (l′ .rows ++ r′ .rows) [] ≡ l′ .rows ++ r′ .rows
-  by-fit true is = refl
-  by-fit false is =
-      let one : split-parts l′ r′ ≡ idle l′ r′ = ap (λ b. cond b (parted (length (l′ .rows))) (idle l′ r′)) is in
-      let two : split-parts l r ≡ parted (length (l .rows)) = ap (λ b. cond b (parted (length (l .rows))) (idle l r)) fits in
-      let no′ : idle l′ r′ ≡ parted (length (l .rows)) = sym one ∙ same ∙ two in
-      absurd (let z : _≡_ {A = ℕ} 0 1 = cc in omega arith)
+    by-fit : (b : Bool) → split-fits l′ r′ ≡ b → cond b (l′ .rows ++ r′ .rows) [] ≡ l′ .rows ++ r′ .rows
+    by-fit true is = refl
+    by-fit false is =
+        let one : split-parts l′ r′ ≡ idle l′ r′ = ap (λ b. cond b (parted (length (l′ .rows))) (idle l′ r′)) is in
+        let two : split-parts l r ≡ parted (length (l .rows)) = ap (λ b. cond b (parted (length (l .rows))) (idle l r)) fits in
+        let no′ : idle l′ r′ ≡ parted (length (l .rows)) = sym one ∙ same ∙ two in
+        absurd (let z : _≡_ {A = ℕ} 0 1 = cc in omega arith)
 
 -- what is made of two homes that go together
 opened-fit : (l r : Meaning Node) (x : Unit {0}) → split-check l r ≡ Ok x → split-opened l r ≡ split-meaning l r
@@ -105,11 +113,24 @@ module _ (near : List (Row Node)) (far : List ℕ) (orders : List Order) (x y : 
 
   -- the tables after the homes have ended
   pub tables-from : (p q : Bool) (last last′ : ℕ) (near′ : List (Row Node)) (far′ : List ℕ) (Same : Type 0) → (Same → (near′ ≡ near) × (far′ ≡ far)) → cond p [] near′ ≡ [] → cond q [] far′ ≡ []
-    → Served (split-check (near-home near) (far-home far)) (morning (near-home near) (far-home far) orders) (table-meaning p last near′) (table-meaning q last′ (read-rows node-reading far′)) Same
-    → Tables (curve-check near far) (morning (near-home near) (far-home far) orders) near near′ far far′
+      → Served (split-check (near-home near) (far-home far)) (morning (near-home near) (far-home far) orders) (table-meaning p last near′) (table-meaning q last′ (read-rows node-reading far′)) Same
+      → Tables (curve-check near far) (morning (near-home near) (far-home far) orders) near near′ far far′
   tables-from p q last last′ near′ far′ Same same in-near in-far served =
       subst (λ c. Tables c (morning (near-home near) (far-home far) orders) near near′ far far′) (sym curve-as-split) (by-check (split-check (near-home near) (far-home far)) served)
     where
-    by-check : (c : Result (Unit {0}) Fault) → Served c (morning (near-home near) (far-home far) orders) (table-meaning p last near′) (table-meaning q last′ (read-rows node-reading far′)) Same → Tables c (morning (near-home near) (far-home far) orders) near near′ far far′
-    by-check (Ok z) s = sym (ap (λ xs. xs ++ cond q (read-rows node-reading far′) []) (whole-table p near′ in-near) ∙ ap (λ ys. near′ ++ ys) (whole-bytes q far′ in-far)) ∙ s
-    by-check (Err fault) s = same s
+      by-check : (c : Result (Unit {0}) Fault) → Served c (morning (near-home near) (far-home far) orders) (table-meaning p last near′) (table-meaning q last′ (read-rows node-reading far′)) Same → Tables c (morning (near-home near) (far-home far) orders) near near′ far far′
+      by-check (Ok z) s = sym (ap (λ xs. xs ++ cond q (read-rows node-reading far′) []) (whole-table p near′ in-near) ∙ ap (λ ys. near′ ++ ys) (whole-bytes q far′ in-far)) ∙ s
+      by-check (Err fault) s = same s
+
+  -- the same, of homes that are known by what they were made of and what they lie in
+  pub tables-after : (l r : Meaning Node) (p q : Bool) (last last′ : ℕ) (rows near′ : List (Row Node)) (bytes far′ : List ℕ) (Same : Type 0)
+      → l ≡ near-home near → r ≡ far-home far → near′ ≡ rows → far′ ≡ bytes
+      → (Same → (near′ ≡ near) × (far′ ≡ far)) → cond p [] rows ≡ [] → cond q [] bytes ≡ []
+      → Served (split-check l r) (morning l r orders) (table-meaning p last rows) (table-meaning q last′ (read-rows node-reading bytes)) Same
+      → Tables (curve-check near far) (morning (near-home near) (far-home far) orders) near near′ far far′
+  tables-after l r p q last last′ rows near′ bytes far′ Same is-l is-r is-near is-far same in-near in-far served =
+      let one = subst (λ (m : Meaning Node). Served (split-check m r) (morning m r orders) (table-meaning p last rows) (table-meaning q last′ (read-rows node-reading bytes)) Same) is-l served in
+      let two = subst (λ (m : Meaning Node). Served (split-check (near-home near) m) (morning (near-home near) m orders) (table-meaning p last rows) (table-meaning q last′ (read-rows node-reading bytes)) Same) is-r one in
+      let three = tables-from p q last last′ rows bytes Same (λ s. (sym is-near ∙ same s .0, sym is-far ∙ same s .1)) in-near in-far two in
+      subst (λ (xs : List (Row Node)). Tables (curve-check near far) (morning (near-home near) (far-home far) orders) near xs far far′) (sym is-near)
+      (subst (λ (ys : List ℕ). Tables (curve-check near far) (morning (near-home near) (far-home far) orders) near rows far ys) (sym is-far) three)

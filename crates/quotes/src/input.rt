@@ -2,13 +2,13 @@
 use crate::order::Order;
 use home::Row;
 use kinds::Node;
+use kinds::NodeKind;
 use makes::pack_row;
 use std::alloc::AllocError;
 use std::alloc::Global;
 use std::alloc::Refused;
 use std::str::FromStr;
 use std::str::SplitWhitespace;
-use kinds::NodeKind;
 
 // One line of the text.
 #[derive(Clone, Copy)]
@@ -86,7 +86,11 @@ impl<T: Drop> From<Refused<T>> for Unread as UnreadRefused {
 
 // Reads the whole text, a line each.
 pub fn read_curve(heap: Global, text: &str) -> Result<Curve, Unread> {
-    let mut curve = Curve { near: Vec::new(heap), far: Vec::new(heap), orders: Vec::new(heap) };
+    let mut curve = Curve {
+        near: Vec::new(heap),
+        far: Vec::new(heap),
+        orders: Vec::new(heap),
+    };
     for (above, line) in text.lines().enumerate() {
         match read_line(line) {
             Some(read) => curve.add(read)?,
@@ -114,7 +118,12 @@ impl Curve {
 
 // A node that nobody holds, with its lease at the beginning of time.
 fn fresh(node: Node) -> Row<Node> {
-    Row { value: node, wts: 0, rts: 0, holder: 0 }
+    Row {
+        value: node,
+        wts: 0,
+        rts: 0,
+        holder: 0,
+    }
 }
 
 // The next word, as a number.

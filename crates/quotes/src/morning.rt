@@ -36,7 +36,11 @@ pub fn serve_all<H: Home<Value = Node>>(home: &mut H, orders: &[Order]) -> Tally
 
 // Serves the orders over two homes side by side, as one curve. Refuses 16 or 19 where they do not go together, and
 // then alters nothing.
-pub fn serve_both<L: Home<Value = Node>, R: Home<Value = Node>>(left: &mut L, right: &mut R, orders: &[Order]) -> Result<Tally, Fault>
+pub fn serve_both<L: Home<Value = Node>, R: Home<Value = Node>>(
+    left: &mut L,
+    right: &mut R,
+    orders: &[Order],
+) -> Result<Tally, Fault>
     ensures answer { λ r. ⌜ r ≡ morning-answer (split-check (L·Home .meaning (now (left .entry))) (R·Home .meaning (now (right .entry)))) (morning (L·Home .meaning (now (left .entry))) (R·Home .meaning (now (right .entry))) (now (orders .entry))) ⌝ }
     ensures served { λ _. ⌜ Served (split-check (L·Home .meaning (now (left .entry))) (R·Home .meaning (now (right .entry)))) (morning (L·Home .meaning (now (left .entry))) (R·Home .meaning (now (right .entry))) (now (orders .entry))) (L·Home .meaning (now (left .exit))) (R·Home .meaning (now (right .exit))) ((now (left .exit) ≡ now (left .entry)) × (now (right .exit) ≡ now (right .entry))) ⌝ }
     ensures memory { λ _. ⌜ L·Home .memory (now (left .exit)) ≡ L·Home .memory (now (left .entry)) ⌝ ∗ ⌜ R·Home .memory (now (right .exit)) ≡ R·Home .memory (now (right .entry)) ⌝ }

@@ -1,12 +1,15 @@
 // The opening of a byte home: its check and its making.
 ghost use mathlib.Core.Path.{_≡_};
+ghost use mathlib.Core.Bool.{cond};
+ghost use mathlib.Core.List.{[]};
 ghost use Prim.Native.Nat.{_≤_, _/_};
 ghost use denote.Ref.{name};
 ghost use lib.ListN.{length};
 ghost use Rattle.std.specs.Results.{isOk};
+ghost use Rattle.home.specs.Memory.{in-bytes};
 ghost use Rattle.home.specs.Opening.{first-bad};
 ghost use Rattle.makes.specs.Bytes.{byte-check, byte-flaw, byte-opened, word-rows};
-ghost use Rattle.makes.specs.ByteHomes.{byte-home-meaning};
+ghost use Rattle.makes.specs.ByteHomes.{byte-home-meaning, byte-home-memory};
 use super::ByteHome;
 use crate::opening::check_size;
 use crate::row_bytes::LAST;
@@ -31,8 +34,8 @@ impl<'a, K: Kind> ByteHome<'a, K> {
     // The home works in the bytes themselves, and alters none by being made.
     pub fn make(bytes: &'a mut [u8]) -> ByteHome<'a, K>
         ensures meaning { λ r. ⌜ byte-home-meaning (K·Kind .reading) r ≡ byte-opened (K·Kind .unpacked) (now (bytes .entry)) ⌝ }
-        ensures passed { λ r. ⌜ r .passed ≡ isOk (byte-check (K·Kind .unpacked) (now (bytes .entry))) ⌝ }
         ensures table { λ r. ⌜ name (r .bytes) ≡ name (bytes .entry) ⌝ ∗ ⌜ now (r .bytes) ≡ now (bytes .entry) ⌝ }
+        ensures memory { λ r. ⌜ byte-home-memory r ≡ in-bytes (name (bytes .entry)) (cond (isOk (byte-check (K·Kind .unpacked) (now (bytes .entry)))) [] (now (bytes .entry))) ⌝ }
     {
         let passed = ByteHome::<K>::check(bytes).is_ok();
         ByteHome {

@@ -1,4 +1,8 @@
 use mathlib.Core.Path.{_≡_, refl, ap, _∙_}
+use mathlib.Core.Bool.{cond}
+use mathlib.Core.List.{[]}
+use denote.Ref.{name}
+use Rattle.home.specs.Memory.{in-bytes}
 use Rattle.std.specs.Results.{isOk}
 use Rattle.makes.specs.Bytes.{byte-check}
 use Rattle.makes.proofs.ByteOpening.{opened}
@@ -16,6 +20,6 @@ returns g c =
     let passed : c .is-ok-passed .result ≡ isOk (byte-check (kind .unpacked) (c .args .bytes .now)) = c .is-ok-passed .ensures .value ∙ ap isOk (c .check .ensures) in
     record {
       meaning = opened (kind .unpacked) (kind .reading) (g .K·Kind·met .right) (c .args .bytes .now) _ passed .1;
-      passed = passed;
       table = (refl, refl);
+      memory = ap (λ p. in-bytes (name (c .args .bytes)) (cond p [] (c .args .bytes .now))) passed;
     }
