@@ -1,16 +1,14 @@
 -- The rows of a byte home: what its bytes say of them, whatever the words are read as.
 use Prim.Native.Nat.{ℕ, zero, suc, _*_, _/_, _<_, _≤_}
-use mathlib.Core.Path.{_≡_, refl, ap, sym, subst, _∙_}
+use mathlib.Core.Path.{_≡_, refl, ap, sym, _∙_}
 use mathlib.Core.List.{List, [], _∷_, map}
 use mathlib.Core.Bool.{Bool, true, false, cond, _&&_}
 use native.Mathlib.Omega.{arith}
-use lib.Dec.{leb}
 use lib.ListN.{length, set}
 use lib.Seq.{paste}
 use Rattle.std.specs.Finite.{nth}
-use Rattle.std.specs.declared.option.Option.{Option}
 use Rattle.std.specs.declared.option.Option.the-variants.{Some, None}
-use Rattle.std.specs.declared.result.Result.the-variants.{Ok, Err}
+use Rattle.std.specs.declared.result.Result.the-variants.{Ok}
 use Rattle.std.proofs.shelf.Lists.{length-map, length-set, map-set}
 use Rattle.std.proofs.shelf.Parts.{putMid-paste}
 use Rattle.std.proofs.shelf.Maps.{nth-getD, nth-past}
@@ -19,7 +17,7 @@ use Rattle.home.specs.declared.row.Row.{Row}
 use Rattle.home.specs.declared.row.Change.{Change}
 use Rattle.home.specs.Rows.{amended, row-after}
 use Rattle.home.specs.Memory.{Memory, in-bytes}
-use Rattle.home.specs.Meaning.{Meaning, Sound, all-fair, checked-place, fair, found, is-sound, well-placed}
+use Rattle.home.specs.Meaning.{Sound, all-fair, checked-place, fair, found, is-sound, well-placed}
 use Rattle.home.proofs.Rows.{amended-fair}
 use Rattle.home.proofs.Calls.{fair-at, fair-set, parts-sound, sound-parts}
 use Rattle.makes.specs.Bytes.{has-room, read-rows, row-at, row-bytes, valued, word-row, word-rows}
