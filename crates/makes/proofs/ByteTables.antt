@@ -1,16 +1,14 @@
 -- The rows of a byte home: what its bytes say of them, whatever the words are read as.
 use Prim.Native.Nat.{ℕ, zero, suc, _*_, _/_, _<_, _≤_}
-use mathlib.Core.Path.{_≡_, refl, ap, sym, subst, _∙_}
+use mathlib.Core.Path.{_≡_, refl, ap, sym, _∙_}
 use mathlib.Core.List.{List, [], _∷_, map}
 use mathlib.Core.Bool.{Bool, true, false, cond, _&&_}
 use native.Mathlib.Omega.{arith}
-use lib.Dec.{leb}
 use lib.ListN.{length, set}
 use lib.Seq.{paste}
 use Rattle.std.specs.Finite.{nth}
-use Rattle.std.specs.declared.option.Option.{Option}
 use Rattle.std.specs.declared.option.Option.the-variants.{Some, None}
-use Rattle.std.specs.declared.result.Result.the-variants.{Ok, Err}
+use Rattle.std.specs.declared.result.Result.the-variants.{Ok}
 use Rattle.std.proofs.shelf.Lists.{length-map, length-set, map-set}
 use Rattle.std.proofs.shelf.Parts.{putMid-paste}
 use Rattle.std.proofs.shelf.Maps.{nth-getD, nth-past}
@@ -18,7 +16,8 @@ use Rattle.std.proofs.shelf.Ways.{tells}
 use Rattle.home.specs.declared.row.Row.{Row}
 use Rattle.home.specs.declared.row.Change.{Change}
 use Rattle.home.specs.Rows.{amended, row-after}
-use Rattle.home.specs.Meaning.{Meaning, Sound, all-fair, checked-place, fair, found, is-sound, well-placed}
+use Rattle.home.specs.Memory.{Memory, in-bytes}
+use Rattle.home.specs.Meaning.{Sound, all-fair, checked-place, fair, found, is-sound, well-placed}
 use Rattle.home.proofs.Rows.{amended-fair}
 use Rattle.home.proofs.Calls.{fair-at, fair-set, parts-sound, sound-parts}
 use Rattle.makes.specs.Bytes.{has-room, read-rows, row-at, row-bytes, valued, word-row, word-rows}
@@ -112,3 +111,20 @@ module _ {V : Type 0} where
       let was = fair-at last rows key row (s .rows) (in-table true rows key row at .2) in
       ap (fair last) left ∙ amended-fair last change row (placed change ok) was
   left-fair false last rows key change row new ok at left s = absurd (let z : _≡_ {A = ℕ} 0 1 = cc in omega arith)
+
+-- ---- the caller's bytes
+
+-- what equal memories of byte homes have in common: the reference, and what is left alone behind it
+pub same-memory : {V : Type 0} (r s : ℕ) (xs ys : List ℕ) → _≡_ {A = Memory V} (in-bytes r xs) (in-bytes s ys) → (r ≡ s) × (xs ≡ ys)
+same-memory r s xs ys same = (cc, cc)
+
+no-bytes : (xs : List ℕ) → length xs ≡ 0 → xs ≡ []
+no-bytes [] none = refl
+no-bytes (x ∷ xs) none = absurd (omega arith)
+
+-- a home that failed its check leaves the bytes as they were
+pub bytes-kept : (now-passed was-passed : Bool) (xs ys : List ℕ) → length xs ≡ length ys → was-passed ≡ false → cond now-passed [] xs ≡ cond was-passed [] ys → xs ≡ ys
+bytes-kept true true xs ys long is same = absurd (let z : _≡_ {A = ℕ} 0 1 = cc in omega arith)
+bytes-kept true false xs ys long is same = no-bytes xs (long ∙ ap length (sym same)) ∙ same
+bytes-kept false true xs ys long is same = absurd (let z : _≡_ {A = ℕ} 0 1 = cc in omega arith)
+bytes-kept false false xs ys long is same = same

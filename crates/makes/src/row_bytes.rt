@@ -51,7 +51,7 @@ pub fn split_row(bytes: &[u8]) -> Option<Row<u64>>
 }
 
 // Puts a row's bytes together.
-pub fn join_row(row: Row<u64>) -> [u8; 17]
+pub fn join_row(row: Row<u64>) -> [u8; ROW_BYTES]
     requires { ⌜ has-room row ≡ true ⌝ }
     ensures { λ r. ⌜ r ≡ row-bytes row ⌝ }
 {
@@ -110,7 +110,7 @@ pub fn words_of<K: Kind>(row: Row<K>) -> Row<u64>
 
 // The bytes of a row; none where a timestamp is past 4,294,967,295 or the holder past 255.
 // Unpacking them gives the row again.
-pub fn pack_row<K: Kind>(row: Row<K>) -> Option<[u8; 17]>
+pub fn pack_row<K: Kind>(row: Row<K>) -> Option<[u8; ROW_BYTES]>
     ensures bytes { λ r. ⌜ r ≡ row-packed (K·Kind .packed) row ⌝ }
     ensures again { λ r. ⌜ BySome r (has-room row ≡ false) (λ bytes. row-unpacked (K·Kind .unpacked) bytes ≡ Some row) ⌝ }
 {

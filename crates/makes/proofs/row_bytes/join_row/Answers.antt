@@ -1,4 +1,3 @@
-use borrow.Author.Needs.{needs}
 use Rattle.makes.specs.Bytes.{row-bytes}
 use Rattle.makes.proofs.row_bytes.join_row.Needs as need
 

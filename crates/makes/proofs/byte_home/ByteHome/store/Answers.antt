@@ -1,7 +1,6 @@
 use Prim.Native.Nat.{_<_, _+_, _*_}
 use mathlib.Core.Path.{_≡_, refl, ap, sym, _∙_}
 use mathlib.Core.Bool.{true}
-use mathlib.Core.List.{List}
 use denote.Ref.{now}
 use native.Mathlib.Omega.{arith}
 use lib.ListN.{length, getD, set}
@@ -9,7 +8,7 @@ use borrow.Author.Needs.{needs}
 use Rattle.std.specs.declared.option.Option.the-variants.{Some}
 use Rattle.std.proofs.shelf.Edits.{paste-more, paste-none}
 use Rattle.home.specs.Meaning.{fair, is-sound}
-use Rattle.makes.specs.Bytes.{has-room, valued, word-rows}
+use Rattle.makes.specs.Bytes.{has-room, word-rows}
 use Rattle.makes.specs.Opening.{table-meaning}
 use Rattle.makes.proofs.Bytes.{length-row-bytes}
 use Rattle.makes.proofs.ByteTables.{fair-room, fair-stored, no-keys-sound, pasted-rows, read-rows-set}
