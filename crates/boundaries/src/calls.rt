@@ -3,8 +3,8 @@ use home::FaultDebug;
 use home::Home;
 use home::Row;
 use kinds::Price;
-use makes::RowHome;
-use makes::RowHomeCalls;
+use row_home::RowHome;
+use row_home::RowHomeCalls;
 use std::test::*;
 
 // A free row with this lease.

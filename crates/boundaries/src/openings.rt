@@ -3,9 +3,9 @@ use home::Home;
 use home::Row;
 use home::RowClone;
 use kinds::Price;
-use makes::RowHome;
-use makes::RowHomeCalls;
-use makes::SplitHome;
+use row_home::RowHome;
+use row_home::RowHomeCalls;
+use split_home::SplitHome;
 use std::test::*;
 
 // A row of a fresh table.

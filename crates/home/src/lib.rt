@@ -2,6 +2,7 @@
 mod changes;
 mod fault;
 mod home;
+mod sizes;
 mod row;
 
 pub use changes::amend;
@@ -11,6 +12,9 @@ pub use fault::FaultPartialEq;
 pub use fault::Layer;
 pub use fault::Refusal;
 pub use home::Home;
+pub use sizes::MAX_COUNT;
+pub use sizes::MAX_LAST;
+pub use sizes::check_size;
 pub use row::Cause;
 pub use row::Change;
 pub use row::Flaw;

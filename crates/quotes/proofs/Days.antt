@@ -13,12 +13,12 @@ use Rattle.std.specs.declared.result.Result.the-variants.{Ok, Err}
 use Rattle.home.specs.declared.fault.Fault.{Fault}
 use Rattle.home.specs.Meaning.{Meaning}
 use Rattle.home.specs.Memory.{Memory, Parts, idle, in-bytes, in-rows, in-two, parted}
-use Rattle.home.specs.Opening.{is-count}
+use Rattle.home.specs.Opening.{is-count, after-size, table-meaning}
+use Rattle.row_home.specs.Opening.{row-check}
 use Rattle.home.specs.declared.row.Row.{Row}
 use Rattle.kinds.specs.Words.{node-reading, node-value}
-use Rattle.makes.specs.Bytes.{byte-check, read-rows, word-rows}
-use Rattle.makes.specs.Opening.{after-size, row-check, table-meaning}
-use Rattle.makes.specs.Splits.{split-check, split-fits, split-made, split-meaning, split-opened, split-parts, split-size, two-lasts}
+use Rattle.byte_home.specs.Bytes.{byte-check, read-rows, word-rows}
+use Rattle.split_home.specs.Splits.{split-check, split-fits, split-made, split-meaning, split-opened, split-parts, split-size, two-lasts}
 use Rattle.kinds.specs.declared.node.Node.{Node}
 use Rattle.quotes.specs.declared.tally.Tally.{Tally}
 use Rattle.quotes.specs.declared.order.Order.{Order}

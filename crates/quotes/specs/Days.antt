@@ -16,9 +16,9 @@ use Rattle.home.specs.Meaning.{Meaning}
 use Rattle.home.specs.Refusals.{number-of}
 use Rattle.kinds.specs.declared.node.Node.{Node}
 use Rattle.kinds.specs.Words.{node-reading, node-value}
-use Rattle.makes.specs.Bytes.{byte-check, byte-opened, read-rows}
-use Rattle.makes.specs.Opening.{row-check, row-opened}
-use Rattle.makes.specs.Splits.{split-check, split-opened}
+use Rattle.byte_home.specs.Bytes.{byte-check, byte-opened, read-rows}
+use Rattle.row_home.specs.Opening.{row-check, row-opened}
+use Rattle.split_home.specs.Splits.{split-check, split-opened}
 use Rattle.quotes.specs.declared.order.Order.{Order}
 use Rattle.quotes.specs.declared.tally.Tally.{Tally}
 use Rattle.quotes.specs.Orders.{served, told}

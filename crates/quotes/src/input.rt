@@ -3,7 +3,7 @@ use crate::order::Order;
 use home::Row;
 use kinds::Node;
 use kinds::NodeKind;
-use makes::pack_row;
+use byte_home::pack_row;
 use std::alloc::AllocError;
 use std::alloc::Global;
 use std::alloc::Refused;

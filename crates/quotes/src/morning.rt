@@ -1,6 +1,6 @@
 // A whole morning of orders.
 ghost use mathlib.Core.Path.{_≡_};
-ghost use Rattle.makes.specs.Splits.{split-check};
+ghost use Rattle.split_home.specs.Splits.{split-check};
 ghost use Rattle.quotes.specs.Days.{Served, Tables, curve-check, day, far-home, morning, morning-answer, near-home, no-tally};
 use crate::order::Order;
 use crate::serve::serve_order;
@@ -10,12 +10,12 @@ use home::Home;
 use home::Row;
 use kinds::Node;
 use kinds::NodeKind;
-use makes::ByteHome;
-use makes::ByteHomeCalls;
-use makes::RowHome;
-use makes::RowHomeCalls;
-use makes::SplitHome;
-use makes::SplitHomeCalls;
+use byte_home::ByteHome;
+use byte_home::ByteHomeCalls;
+use row_home::RowHome;
+use row_home::RowHomeCalls;
+use split_home::SplitHome;
+use split_home::SplitHomeCalls;
 
 // The last timestamp of the curve, which is that of every byte home.
 const LAST: u64 = 4_294_967_295;

@@ -1,6 +1,0 @@
-use Rattle.makes.specs.Bytes.{row-bytes}
-use Rattle.makes.proofs.row_bytes.join_row.Needs as need
-
-pub returns : need.returns
-unfolding row-bytes
-returns c = simp (c .to-be-bytes .ensures, c .to-be-bytes-2 .ensures, c .to-be-bytes-3 .ensures)

@@ -1,0 +1,28 @@
+use mathlib.Core.Path.{sym}
+use borrow.Author.Needs.{needs}
+use Rattle.home.specs.declared.row.Change.the-variants.{Renew}
+use Rattle.home.specs.Rows.{lease-of}
+use Rattle.home.specs.Meaning.{end-of, nothing}
+use Rattle.split_home.proofs.Splits.{left-change, right-change, no-change, renamed-answer}
+use Rattle.split_home.proofs.calls.SplitHomeCalls.renew.Needs as need
+
+pub returns-in-Left : need.returns-in-Left
+returns-in-Left g c =
+    let l = g .L·Home .meaning (c .args .self .now .left .now) in
+    let r = g .R·Home .meaning (c .args .self .now .right .now) in
+    let h = left-change l r (c .args .key) (Renew (c .args .wts) (c .args .t) (c .args .wish)) (sym (c .in-Left .ensures tt .answer)) in
+    search needs
+
+pub returns-in-Right : need.returns-in-Right
+returns-in-Right g c =
+    let l = g .L·Home .meaning (c .args .self .now .left .now) in
+    let r = g .R·Home .meaning (c .args .self .now .right .now) in
+    let h = right-change l r (c .args .key) _ (Renew (c .args .wts) (c .args .t) (c .args .wish)) (sym (c .in-Right .ensures tt .answer)) in
+    search (needs, renamed-answer)
+
+pub returns-in-Neither : need.returns-in-Neither
+returns-in-Neither g c =
+    let l = g .L·Home .meaning (c .args .self .now .left .now) in
+    let r = g .R·Home .meaning (c .args .self .now .right .now) in
+    let h = no-change l r (c .args .key) (Renew (c .args .wts) (c .args .t) (c .args .wish)) (sym (c .in-Neither .ensures tt .answer)) in
+    search needs
