@@ -1,8 +1,13 @@
+use byte_home::ByteHome;
+use byte_home::ByteHomeCalls;
 use home::Fault;
 use home::Home;
 use home::Row;
 use home::RowClone;
+use kinds::Node;
+use kinds::NodeKind;
 use kinds::Price;
+use kinds::PriceKind;
 use row_home::RowHome;
 use row_home::RowHomeCalls;
 use split_home::SplitHome;
@@ -63,6 +68,38 @@ fn the_first_bad_row() -> Result<(), Fail> {
     let home = RowHome::make(&mut rows, 10);
     check_eq(home.count(), 0)?;
     check_eq(home.last(), 0)
+}
+
+#[test]
+fn byte_counts(rt: LibcRuntime) -> Result<(), Fail> {
+    let mut bytes = vec![in rt.alloc(); 0u8; 16]?;
+    check_eq(parts(ByteHome::<Price>::check(&[])), (16, 0, 0))?;
+    check_eq(parts(ByteHome::<Price>::check(&bytes)), (16, 0, 0))?;
+    bytes.push(0)?;
+    check_eq(parts(ByteHome::<Price>::check(&bytes)), (0, 0, 0))?;
+    bytes.push(0)?;
+    check_eq(parts(ByteHome::<Price>::check(&bytes)), (16, 0, 0))?;
+    let mut most = vec![in rt.alloc(); 0u8; 1_114_095]?;
+    check_eq(parts(ByteHome::<Price>::check(&most)), (0, 0, 0))?;
+    most.extend_from_slice(&[0; 17])?;
+    check_eq(parts(ByteHome::<Price>::check(&most)), (16, 0, 0))
+}
+
+#[test]
+fn the_first_bad_bytes() -> Result<(), Fail> {
+    // Two rows: day 1 with rate 0, lease 0 to 0, nobody; then the same, spoilt from the last byte on.
+    let mut bytes = [0u8; 34];
+    bytes[3] = 1;
+    check_eq(parts(ByteHome::<Node>::check(&bytes)), (17, 1, 3))?;
+    bytes[33] = 65;
+    check_eq(parts(ByteHome::<Node>::check(&bytes)), (17, 1, 2))?;
+    bytes[28] = 1;
+    check_eq(parts(ByteHome::<Node>::check(&bytes)), (17, 1, 1))?;
+    bytes[3] = 0;
+    check_eq(parts(ByteHome::<Node>::check(&bytes)), (17, 0, 3))?;
+    let home = ByteHome::<Node>::make(&mut bytes);
+    check_eq(home.count(), 0)?;
+    check_eq(home.last(), 4_294_967_295)
 }
 
 #[test]

@@ -11,13 +11,13 @@ ghost use Rattle.home.specs.Opening.{first-bad};
 ghost use Rattle.byte_home.specs.Bytes.{byte-check, byte-flaw, byte-opened, word-rows};
 ghost use Rattle.byte_home.specs.Meanings.{byte-home-meaning, byte-home-memory};
 use crate::ByteHome;
-use home::check_size;
 use crate::row_bytes::LAST;
 use crate::row_bytes::ROW_BYTES;
 use crate::row_bytes::row_at;
 use home::Fault;
 use home::Flaw;
 use home::Row;
+use home::check_size;
 use kinds::Kind;
 use std::marker::PhantomData;
 

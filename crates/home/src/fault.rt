@@ -66,9 +66,9 @@ impl Refusal {
 // The layer of the store in which a refusal arose.
 #[derive(Clone, Copy, PartialEq, Eq, Debug)]
 pub enum Layer {
-    Home = 1,
-    Coordinator = 2,
-    Above = 3,
+    Home,
+    Coordinator,
+    Above,
 }
 
 impl Layer {
@@ -76,7 +76,11 @@ impl Layer {
     pub fn level(self) -> u8
         ensures { λ r. ⌜ r ≡ layer-of self ⌝ }
     {
-        self as u8
+        match self {
+            Layer::Home => 1,
+            Layer::Coordinator => 2,
+            Layer::Above => 3,
+        }
     }
 }
 

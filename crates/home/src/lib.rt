@@ -2,8 +2,8 @@
 mod changes;
 mod fault;
 mod home;
-mod sizes;
 mod row;
+mod sizes;
 
 pub use changes::amend;
 pub use fault::Fault;
@@ -12,9 +12,6 @@ pub use fault::FaultPartialEq;
 pub use fault::Layer;
 pub use fault::Refusal;
 pub use home::Home;
-pub use sizes::MAX_COUNT;
-pub use sizes::MAX_LAST;
-pub use sizes::check_size;
 pub use row::Cause;
 pub use row::Change;
 pub use row::Flaw;
@@ -23,3 +20,6 @@ pub use row::Row;
 pub use row::RowClone;
 pub use row::RowDebug;
 pub use row::RowPartialEq;
+pub use sizes::MAX_COUNT;
+pub use sizes::MAX_LAST;
+pub use sizes::check_size;

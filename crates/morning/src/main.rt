@@ -1,20 +1,20 @@
 // A quote server's morning: reads a curve and the orders for it, serves them, and prints what came of it.
+use byte_home::ByteHome;
+use byte_home::ByteHomeCalls;
 use home::Home;
 use home::Refusal;
 use home::Row;
 use kinds::Node;
 use kinds::NodeKind;
-use byte_home::ByteHome;
-use byte_home::ByteHomeCalls;
-use row_home::RowHome;
-use row_home::RowHomeCalls;
-use split_home::SplitHome;
-use split_home::SplitHomeCalls;
 use quotes::Curve;
 use quotes::Tally;
 use quotes::Unread;
 use quotes::read_curve;
 use quotes::run_morning;
+use row_home::RowHome;
+use row_home::RowHomeCalls;
+use split_home::SplitHome;
+use split_home::SplitHomeCalls;
 use std::error::AnyError;
 use std::io::Read;
 
@@ -64,7 +64,11 @@ fn show(rt: &LibcRuntime, near: &mut [Row<Node>], far: &mut [u8]) -> Result<(), 
         if let Ok(row) = home.look(key) {
             let day = row.value.day();
             let rate = row.value.rate();
-            println!(rt, "{key:>3}  day {day:>5}  rate {rate:>7}  [{}, {}]  holder {}", row.wts, row.rts, row.holder)?;
+            println!(
+                rt,
+                "{key:>3}  day {day:>5}  rate {rate:>7}  [{}, {}]  holder {}",
+                row.wts, row.rts, row.holder
+            )?;
         }
     }
     Ok(())
@@ -74,7 +78,15 @@ fn show(rt: &LibcRuntime, near: &mut [Row<Node>], far: &mut [u8]) -> Result<(), 
 fn summary(rt: &LibcRuntime, tally: &Tally) -> Result<(), AnyError> {
     let accepted = tally.accepted;
     println!(rt, "accepted {accepted:>4}")?;
-    for refusal in [Refusal::NoKey, Refusal::Held, Refusal::TimeSpent, Refusal::NoPlace, Refusal::MovedOn, Refusal::NotYours, Refusal::TooEarly] {
+    for refusal in [
+        Refusal::NoKey,
+        Refusal::Held,
+        Refusal::TimeSpent,
+        Refusal::NoPlace,
+        Refusal::MovedOn,
+        Refusal::NotYours,
+        Refusal::TooEarly,
+    ] {
         let number = refusal.number();
         let count = tally.refused[number as usize];
         if count > 0 {

@@ -1,9 +1,9 @@
 // The text of a morning: the curve, then the orders, a line each.
 use crate::order::Order;
+use byte_home::pack_row;
 use home::Row;
 use kinds::Node;
 use kinds::NodeKind;
-use byte_home::pack_row;
 use std::alloc::AllocError;
 use std::alloc::Global;
 use std::alloc::Refused;

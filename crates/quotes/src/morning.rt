@@ -5,13 +5,13 @@ ghost use Rattle.quotes.specs.Days.{Served, Tables, curve-check, day, far-home
 use crate::order::Order;
 use crate::serve::serve_order;
 use crate::tally::Tally;
+use byte_home::ByteHome;
+use byte_home::ByteHomeCalls;
 use home::Fault;
 use home::Home;
 use home::Row;
 use kinds::Node;
 use kinds::NodeKind;
-use byte_home::ByteHome;
-use byte_home::ByteHomeCalls;
 use row_home::RowHome;
 use row_home::RowHomeCalls;
 use split_home::SplitHome;

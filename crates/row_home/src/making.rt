@@ -11,10 +11,10 @@ ghost use Rattle.home.specs.Opening.{first-bad, row-flaw};
 ghost use Rattle.row_home.specs.Opening.{row-check, row-opened};
 ghost use Rattle.row_home.specs.Meanings.{row-home-meaning, row-home-memory};
 use crate::RowHome;
-use home::MAX_LAST;
-use home::check_size;
 use home::Fault;
+use home::MAX_LAST;
 use home::Row;
+use home::check_size;
 
 impl<'a, V: Copy> RowHome<'a, V> {
     // Tests a table that a home is to be made of. Refuses 16, 17.

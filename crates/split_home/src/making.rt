@@ -3,11 +3,11 @@ ghost use mathlib.Core.Path.{_≡_};
 ghost use denote.Ref.{name, now};
 ghost use Rattle.split_home.specs.Splits.{split-check, split-meaning, split-opened};
 use crate::SplitHome;
-use home::check_size;
 use home::Fault;
 use home::Home;
 use home::Layer;
 use home::Refusal;
+use home::check_size;
 
 impl<'a, 'b, L: Home, R: Home<Value = L::Value>> SplitHome<'a, 'b, L, R> {
     // Tests two homes that are to go together. Refuses 16, 19.
