@@ -59,6 +59,9 @@ fn row_lasts() -> Result<(), Fail> {
 #[test]
 fn the_first_bad_row() -> Result<(), Fail> {
     let mut rows = [fresh(), fresh(), fresh(), fresh()];
+    rows[0].rts = 10;
+    rows[1].holder = 64;
+    check_eq(parts(RowHome::check(&rows, 10)), (0, 0, 0))?;
     rows[3].rts = 11;
     check_eq(parts(RowHome::check(&rows, 10)), (17, 3, 1))?;
     rows[2].holder = 65;

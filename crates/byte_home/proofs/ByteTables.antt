@@ -113,18 +113,3 @@ module _ {V : Type 0} where
   left-fair false last rows key change row new ok at left s = absurd (let z : _≡_ {A = ℕ} 0 1 = cc in omega arith)
 
 -- ---- the caller's bytes
-
--- what equal memories of byte homes have in common: the reference, and what is left alone behind it
-pub same-memory : {V : Type 0} (r s : ℕ) (xs ys : List ℕ) → _≡_ {A = Memory V} (in-bytes r xs) (in-bytes s ys) → (r ≡ s) × (xs ≡ ys)
-same-memory r s xs ys same = (cc, cc)
-
-no-bytes : (xs : List ℕ) → length xs ≡ 0 → xs ≡ []
-no-bytes [] none = refl
-no-bytes (x ∷ xs) none = absurd (omega arith)
-
--- a home that failed its check leaves the bytes as they were
-pub bytes-kept : (now-passed was-passed : Bool) (xs ys : List ℕ) → length xs ≡ length ys → was-passed ≡ false → cond now-passed [] xs ≡ cond was-passed [] ys → xs ≡ ys
-bytes-kept true true xs ys long is same = absurd (let z : _≡_ {A = ℕ} 0 1 = cc in omega arith)
-bytes-kept true false xs ys long is same = no-bytes xs (long ∙ ap length (sym same)) ∙ same
-bytes-kept false true xs ys long is same = absurd (let z : _≡_ {A = ℕ} 0 1 = cc in omega arith)
-bytes-kept false false xs ys long is same = same

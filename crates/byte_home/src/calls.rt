@@ -10,7 +10,7 @@ ghost use Rattle.home.specs.Meaning.{Sound, after, changed, fair, found};
 ghost use Rattle.byte_home.specs.Bytes.{read-rows};
 ghost use Rattle.byte_home.specs.Meanings.{byte-home-meaning, byte-home-memory};
 use crate::ByteHome;
-use crate::row_bytes::LAST;
+use crate::row_bytes::BYTE_LAST;
 use crate::row_bytes::ROW_BYTES;
 use crate::row_bytes::join_row;
 use crate::row_bytes::revalued;
@@ -41,7 +41,7 @@ pub impl<'a, K: Kind> Home for ByteHome<'a, K> as ByteHomeCalls {
     }
 
     fn last(&self) -> u64 {
-        LAST
+        BYTE_LAST
     }
 
     fn look(&self, key: u32) -> Result<Row<K>, Fault> {
@@ -107,7 +107,7 @@ impl<'a, K: Kind> ByteHome<'a, K> {
         let _kind = self.kind;
         change.check_place()?;
         let mut row = self.fetch(key)?;
-        let lease = row.amend(change, LAST)?;
+        let lease = row.amend(change, BYTE_LAST)?;
         self.store(key, row);
         Ok(lease)
     }

@@ -12,6 +12,7 @@ mod making;
 mod row_bytes;
 
 pub use calls::ByteHomeCalls;
+pub use row_bytes::BYTE_LAST;
 pub use row_bytes::pack_row;
 pub use row_bytes::unpack_row;
 

@@ -11,7 +11,7 @@ ghost use Rattle.home.specs.Opening.{first-bad};
 ghost use Rattle.byte_home.specs.Bytes.{byte-check, byte-flaw, byte-opened, word-rows};
 ghost use Rattle.byte_home.specs.Meanings.{byte-home-meaning, byte-home-memory};
 use crate::ByteHome;
-use crate::row_bytes::LAST;
+use crate::row_bytes::BYTE_LAST;
 use crate::row_bytes::ROW_BYTES;
 use crate::row_bytes::row_at;
 use home::Fault;
@@ -63,7 +63,7 @@ fn check_rows<K: Kind>(bytes: &[u8]) -> Result<(), Fault>
 fn flaw_of<K: Kind>(row: Row<u64>) -> Option<Flaw>
     ensures { λ r. ⌜ r ≡ byte-flaw (K·Kind .unpacked) row ⌝ }
 {
-    match row.flaw(LAST) {
+    match row.flaw(BYTE_LAST) {
         Some(flaw) => Some(flaw),
         None => match K::unpack(row.value) {
             Some(_) => None,

@@ -11,13 +11,13 @@ use home::Row;
 use kinds::Kind;
 
 // The bytes of a row: 8 for the word of its value, 4 for wts, 4 for rts, 1 for the holder.
-pub const ROW_BYTES: usize = 17;
+pub(crate) const ROW_BYTES: usize = 17;
 
 // The latest timestamp that four bytes hold: the last one of every byte home.
-pub const LAST: u64 = 4_294_967_295;
+pub const BYTE_LAST: u64 = 4_294_967_295;
 
 // Takes a row's bytes apart, with the word in the place of the value; none where there are not seventeen.
-pub fn split_row(bytes: &[u8]) -> Option<Row<u64>>
+pub(crate) fn split_row(bytes: &[u8]) -> Option<Row<u64>>
     ensures { λ r. ⌜ r ≡ cond (eqb (length (now (bytes .entry))) 17) (Some (word-row (now (bytes .entry)))) None ⌝ }
 {
     let [
@@ -29,14 +29,14 @@ pub fn split_row(bytes: &[u8]) -> Option<Row<u64>>
         w5,
         w6,
         w7,
-        a0,
-        a1,
-        a2,
-        a3,
-        b0,
-        b1,
-        b2,
-        b3,
+        wts0,
+        wts1,
+        wts2,
+        wts3,
+        rts0,
+        rts1,
+        rts2,
+        rts3,
         holder,
     ] = bytes
     else {
@@ -44,20 +44,20 @@ pub fn split_row(bytes: &[u8]) -> Option<Row<u64>>
     };
     Some(Row {
         value: u64::from_be_bytes([*w0, *w1, *w2, *w3, *w4, *w5, *w6, *w7]),
-        wts: u64::from(u32::from_be_bytes([*a0, *a1, *a2, *a3])),
-        rts: u64::from(u32::from_be_bytes([*b0, *b1, *b2, *b3])),
+        wts: u64::from(u32::from_be_bytes([*wts0, *wts1, *wts2, *wts3])),
+        rts: u64::from(u32::from_be_bytes([*rts0, *rts1, *rts2, *rts3])),
         holder: u32::from(*holder),
     })
 }
 
 // Puts a row's bytes together.
-pub fn join_row(row: Row<u64>) -> [u8; ROW_BYTES]
+pub(crate) fn join_row(row: Row<u64>) -> [u8; ROW_BYTES]
     requires { ⌜ has-room row ≡ true ⌝ }
     ensures { λ r. ⌜ r ≡ row-bytes row ⌝ }
 {
     let [w0, w1, w2, w3, w4, w5, w6, w7] = row.value.to_be_bytes();
-    let [a0, a1, a2, a3] = (row.wts as u32).to_be_bytes();
-    let [b0, b1, b2, b3] = (row.rts as u32).to_be_bytes();
+    let [wts0, wts1, wts2, wts3] = (row.wts as u32).to_be_bytes();
+    let [rts0, rts1, rts2, rts3] = (row.rts as u32).to_be_bytes();
     [
         w0,
         w1,
@@ -67,20 +67,20 @@ pub fn join_row(row: Row<u64>) -> [u8; ROW_BYTES]
         w5,
         w6,
         w7,
-        a0,
-        a1,
-        a2,
-        a3,
-        b0,
-        b1,
-        b2,
-        b3,
+        wts0,
+        wts1,
+        wts2,
+        wts3,
+        rts0,
+        rts1,
+        rts2,
+        rts3,
         row.holder as u8,
     ]
 }
 
 // The row of a key in a table of bytes.
-pub fn row_at(bytes: &[u8], key: usize) -> Row<u64>
+pub(crate) fn row_at(bytes: &[u8], key: usize) -> Row<u64>
     requires { ⌜ key < length (now bytes) / 17 ⌝ }
     ensures { λ r. ⌜ r ≡ row-at (now (bytes .entry)) key ⌝ }
 {
@@ -89,7 +89,7 @@ pub fn row_at(bytes: &[u8], key: usize) -> Row<u64>
 }
 
 // The row with another value.
-pub fn revalued<V: Copy, W: Copy>(row: Row<V>, value: W) -> Row<W>
+pub(crate) fn revalued<V: Copy, W: Copy>(row: Row<V>, value: W) -> Row<W>
     ensures { λ r. ⌜ r ≡ valued (λ _. value) row ⌝ }
 {
     Row {
@@ -101,7 +101,7 @@ pub fn revalued<V: Copy, W: Copy>(row: Row<V>, value: W) -> Row<W>
 }
 
 // The row with its value's word in the place of the value.
-pub fn words_of<K: Kind>(row: Row<K>) -> Row<u64>
+pub(crate) fn words_of<K: Kind>(row: Row<K>) -> Row<u64>
     ensures words { λ r. ⌜ r ≡ valued (K·Kind .packed) row ⌝ }
     ensures again { λ r. ⌜ K·Kind .unpacked (r .value) ≡ Some (row .value) ⌝ }
 {
@@ -114,7 +114,7 @@ pub fn pack_row<K: Kind>(row: Row<K>) -> Option<[u8; ROW_BYTES]>
     ensures bytes { λ r. ⌜ r ≡ row-packed (K·Kind .packed) row ⌝ }
     ensures again { λ r. ⌜ BySome r (has-room row ≡ false) (λ bytes. row-unpacked (K·Kind .unpacked) bytes ≡ Some row) ⌝ }
 {
-    if row.wts > LAST || row.rts > LAST || row.holder > 255 {
+    if row.wts > BYTE_LAST || row.rts > BYTE_LAST || row.holder > 255 {
         return None;
     }
     Some(join_row(words_of(row)))

@@ -49,10 +49,6 @@ module _ {V : Type 0} where
 
   -- ---- a change, test by test
 
-  pub place-refused : (m : Meaning V) (key : ℕ) (change : Change V) (cause : Cause) → checked-place change ≡ Err cause → changed m key change ≡ refuses cause
-  unfolding changed
-  place-refused m key change cause no-place = grind (arith, tells)
-
   pub key-refused : (m : Meaning V) (key : ℕ) (change : Change V) (cause : Cause) → checked-place change ≡ Ok tt → found (nth (m .rows) key) ≡ Err cause → changed m key change ≡ refuses cause
   unfolding changed
   key-refused m key change cause ok gone = grind (arith, tells)

@@ -26,14 +26,14 @@ fn make_call<H: Home>(home: &mut H, key: u32, change: Change<H::Value>) -> Resul
     ensures sound { λ _. ⌜ Sound (H·Home .meaning (now (home .entry))) ⌝ }
 {
     match change {
-        Change::Hold { place } => match home.hold(key, place) {
-            Ok(_) => Ok(()),
-            Err(fault) => Err(fault),
-        },
-        Change::Renew { wts, t, wish } => match home.renew(key, wts, t, wish) {
-            Ok(_) => Ok(()),
-            Err(fault) => Err(fault),
-        },
+        Change::Hold { place } => {
+            home.hold(key, place)?;
+            Ok(())
+        }
+        Change::Renew { wts, t, wish } => {
+            home.renew(key, wts, t, wish)?;
+            Ok(())
+        }
         Change::Put { place, value, t } => home.put(key, place, value, t),
         Change::Free { place } => home.free(key, place),
     }

@@ -85,7 +85,7 @@ impl Layer {
 }
 
 // A refusal with all that is known of it. Place and key are those given to the outermost call, or 0 where
-// it has none; the detail is the holder for Held and NotClean, the standing wts for MovedOn, the state for
+// it has none; for BadRow and NotClean the key is the row's. The detail is the holder for Held and NotClean, the standing wts for MovedOn, the state for
 // PlaceTaken and WrongState, which part of the row is bad for BadRow, and 0 for the others.
 #[derive(Clone, Copy, PartialEq, Eq, Debug)]
 pub struct Fault {

@@ -3,6 +3,7 @@
 --   price-value w    every word is a price
 --   price-reading w  that price
 --   day-of n         the day of a node, from 1 to 65,536
+--   with-rate n r    the node of the same day with the rate r
 --   node-of d r      the node of day d and rate r, if 1 ≤ d ≤ 65,536
 --   node-word n      day × 4,294,967,296 + the rate as a 32-bit two's complement number
 --   node-value w     the node whose word w is: the day is what stands above the lower 32 bits
@@ -30,6 +31,9 @@ price-value w = Some (price-reading w)
 
 abbrev pub day-of : Node → ℕ
 day-of n = n .«day_less_one» + 1
+
+abbrev pub with-rate : Node → ℤ → Node
+with-rate n rate = record { «day_less_one» = n .«day_less_one»; rate = rate }
 
 abbrev pub node-of : ℕ → ℤ → Option Node
 node-of day rate = cond (leb 1 day && leb day 65536) (Some (record { «day_less_one» = day - 1; rate = rate })) None

@@ -1,4 +1,4 @@
-// Values that have a code and a word: what the byte home stores and what rerun's lines carry.
+// Values that have a code and a word, so that they can be written down as bytes and in lines of text.
 mod kind;
 mod node;
 mod price;

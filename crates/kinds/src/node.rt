@@ -1,6 +1,6 @@
 ghost use mathlib.Core.Path.{_≡_};
 ghost use Rattle.std.specs.Options.{isSome};
-ghost use Rattle.kinds.specs.Words.{node-word, node-value, node-reading, node-of, is-node-word, day-of};
+ghost use Rattle.kinds.specs.Words.{node-word, node-value, node-reading, node-of, is-node-word, day-of, with-rate};
 use crate::kind::Kind;
 
 // A point of an interest-rate curve.
@@ -36,7 +36,7 @@ impl Node {
 
     // The node of the same day with another rate.
     pub fn with_rate(self, rate: i32) -> Node
-        ensures { λ r. ⌜ r ≡ record { «day_less_one» = self .«day_less_one»; rate = rate } ⌝ }
+        ensures { λ r. ⌜ r ≡ with-rate self rate ⌝ }
     {
         Node {
             day_less_one: self.day_less_one,
@@ -81,7 +81,7 @@ pub impl Kind for Node as NodeKind {
         Node::new(day as u32, (rate as u32).cast_signed())
     }
 
-    // A day past the sixteen bits loses what is above them.
+    // A word that is no node's is read as some node: day 0 as 1, and of a later day what sixteen bits hold.
     fn read(word: u64) -> Node {
         let day = word / 4_294_967_296;
         let rate = word % 4_294_967_296;

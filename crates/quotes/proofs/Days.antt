@@ -74,6 +74,23 @@ both-rows l l′ r r′ fits same = by-fit (split-fits l′ r′) refl
         let no′ : idle l′ r′ ≡ parted (length (l .rows)) = sym one ∙ same ∙ two in
         absurd (let z : _≡_ {A = ℕ} 0 1 = cc in omega arith)
 
+-- and the left one has as many keys as before
+same-left : (l l′ r r′ : Meaning Node) → split-fits l r ≡ true → split-parts l′ r′ ≡ split-parts l r → length (l′ .rows) ≡ length (l .rows)
+same-left l l′ r r′ fits same = by-fit (split-fits l′ r′) refl
+  where
+    two : split-parts l r ≡ parted (length (l .rows))
+    two = ap (λ b. cond b (parted (length (l .rows))) (idle l r)) fits
+
+    by-fit : (b : Bool) → split-fits l′ r′ ≡ b → length (l′ .rows) ≡ length (l .rows)
+    by-fit true is =
+        let one : split-parts l′ r′ ≡ parted (length (l′ .rows)) = ap (λ b. cond b (parted (length (l′ .rows))) (idle l′ r′)) is in
+        let e : _≡_ {A = Parts Node} (parted (length (l′ .rows))) (parted (length (l .rows))) = sym one ∙ same ∙ two in
+        cc
+    by-fit false is =
+        let one : split-parts l′ r′ ≡ idle l′ r′ = ap (λ b. cond b (parted (length (l′ .rows))) (idle l′ r′)) is in
+        let no′ : idle l′ r′ ≡ parted (length (l .rows)) = sym one ∙ same ∙ two in
+        absurd (let z : _≡_ {A = ℕ} 0 1 = cc in omega arith)
+
 -- what is made of two homes that go together
 opened-fit : (l r : Meaning Node) (x : Unit {0}) → split-check l r ≡ Ok x → split-opened l r ≡ split-meaning l r
 opened-fit l r x ok = ap (split-made l r) ok ∙ ap (λ b. record { last = l .last; rows = cond b (l .rows ++ r .rows) [] }) (sym (fits-from-check l r x ok))
@@ -85,11 +102,11 @@ module _ (l l′ r r′ : Meaning Node) (orders : List Order) (x : Unit {0}) (ok
       ap (λ t. Ok t) (is ∙ ap (λ m. day (record { home = m; tally = no-tally }) orders .tally) (sym (opened-fit l r x ok)))
       ∙ ap (λ c. morning-answer c (day (record { home = split-opened l r; tally = no-tally }) orders)) (sym ok)
 
-  pub both-served : (Same : Type 0) → split-meaning l′ r′ ≡ day (record { home = split-meaning l r; tally = no-tally }) orders .home → split-parts l′ r′ ≡ split-parts l r → Served (split-check l r) (morning l r orders) l′ r′ Same
+  pub both-served : (Same : Type 0) → split-meaning l′ r′ ≡ day (record { home = split-meaning l r; tally = no-tally }) orders .home → split-parts l′ r′ ≡ split-parts l r → Served (split-check l r) (morning l r orders) l l′ r′ Same
   unfolding morning
   both-served Same is same =
       let rows = sym (both-rows l l′ r r′ (fits-from-check l r x ok) same) ∙ ap (λ (m : Meaning Node). m .rows) (is ∙ ap (λ m. day (record { home = m; tally = no-tally }) orders .home) (sym (opened-fit l r x ok))) in
-      subst (λ c. Served c (day (record { home = split-opened l r; tally = no-tally }) orders) l′ r′ Same) (sym ok) rows
+      subst (λ c. Served c (day (record { home = split-opened l r; tally = no-tally }) orders) l l′ r′ Same) (sym ok) (rows, same-left l l′ r r′ (fits-from-check l r x ok) same)
 
 -- ---- two tables
 
@@ -112,25 +129,25 @@ module _ (near : List (Row Node)) (far : List ℕ) (orders : List Order) (x y : 
   curve-as-split = ap (λ c. and-then c (and-then (byte-check node-value far) (split-check (near-home near) (far-home far)))) row-ok ∙ ap (λ c. and-then c (split-check (near-home near) (far-home far))) byte-ok
 
   -- the tables after the homes have ended
-  pub tables-from : (p q : Bool) (last last′ : ℕ) (near′ : List (Row Node)) (far′ : List ℕ) (Same : Type 0) → (Same → (near′ ≡ near) × (far′ ≡ far)) → cond p [] near′ ≡ [] → cond q [] far′ ≡ []
-      → Served (split-check (near-home near) (far-home far)) (morning (near-home near) (far-home far) orders) (table-meaning p last near′) (table-meaning q last′ (read-rows node-reading far′)) Same
+  pub tables-from : (l : Meaning Node) (p q : Bool) (last last′ : ℕ) (near′ : List (Row Node)) (far′ : List ℕ) (Same : Type 0) → length near′ ≡ length near → length far′ ≡ length far → (Same → (near′ ≡ near) × (far′ ≡ far)) → cond p [] near′ ≡ [] → cond q [] far′ ≡ []
+      → Served (split-check (near-home near) (far-home far)) (morning (near-home near) (far-home far) orders) l (table-meaning p last near′) (table-meaning q last′ (read-rows node-reading far′)) Same
       → Tables (curve-check near far) (morning (near-home near) (far-home far) orders) near near′ far far′
-  tables-from p q last last′ near′ far′ Same same in-near in-far served =
+  tables-from l p q last last′ near′ far′ Same long-near long-far same in-near in-far served =
       subst (λ c. Tables c (morning (near-home near) (far-home far) orders) near near′ far far′) (sym curve-as-split) (by-check (split-check (near-home near) (far-home far)) served)
     where
-      by-check : (c : Result (Unit {0}) Fault) → Served c (morning (near-home near) (far-home far) orders) (table-meaning p last near′) (table-meaning q last′ (read-rows node-reading far′)) Same → Tables c (morning (near-home near) (far-home far) orders) near near′ far far′
-      by-check (Ok z) s = sym (ap (λ xs. xs ++ cond q (read-rows node-reading far′) []) (whole-table p near′ in-near) ∙ ap (λ ys. near′ ++ ys) (whole-bytes q far′ in-far)) ∙ s
+      by-check : (c : Result (Unit {0}) Fault) → Served c (morning (near-home near) (far-home far) orders) l (table-meaning p last near′) (table-meaning q last′ (read-rows node-reading far′)) Same → Tables c (morning (near-home near) (far-home far) orders) near near′ far far′
+      by-check (Ok z) s = (sym (ap (λ xs. xs ++ cond q (read-rows node-reading far′) []) (whole-table p near′ in-near) ∙ ap (λ ys. near′ ++ ys) (whole-bytes q far′ in-far)) ∙ s .0, long-near, long-far)
       by-check (Err fault) s = same s
 
   -- the same, of homes that are known by what they were made of and what they lie in
   pub tables-after : (l r : Meaning Node) (p q : Bool) (last last′ : ℕ) (rows near′ : List (Row Node)) (bytes far′ : List ℕ) (Same : Type 0)
-      → l ≡ near-home near → r ≡ far-home far → near′ ≡ rows → far′ ≡ bytes
+      → l ≡ near-home near → r ≡ far-home far → near′ ≡ rows → far′ ≡ bytes → length near′ ≡ length near → length far′ ≡ length far
       → (Same → (near′ ≡ near) × (far′ ≡ far)) → cond p [] rows ≡ [] → cond q [] bytes ≡ []
-      → Served (split-check l r) (morning l r orders) (table-meaning p last rows) (table-meaning q last′ (read-rows node-reading bytes)) Same
+      → Served (split-check l r) (morning l r orders) l (table-meaning p last rows) (table-meaning q last′ (read-rows node-reading bytes)) Same
       → Tables (curve-check near far) (morning (near-home near) (far-home far) orders) near near′ far far′
-  tables-after l r p q last last′ rows near′ bytes far′ Same is-l is-r is-near is-far same in-near in-far served =
-      let one = subst (λ (m : Meaning Node). Served (split-check m r) (morning m r orders) (table-meaning p last rows) (table-meaning q last′ (read-rows node-reading bytes)) Same) is-l served in
-      let two = subst (λ (m : Meaning Node). Served (split-check (near-home near) m) (morning (near-home near) m orders) (table-meaning p last rows) (table-meaning q last′ (read-rows node-reading bytes)) Same) is-r one in
-      let three = tables-from p q last last′ rows bytes Same (λ s. (sym is-near ∙ same s .0, sym is-far ∙ same s .1)) in-near in-far two in
+  tables-after l r p q last last′ rows near′ bytes far′ Same is-l is-r is-near is-far long-near long-far same in-near in-far served =
+      let one = subst (λ (m : Meaning Node). Served (split-check m r) (morning m r orders) l (table-meaning p last rows) (table-meaning q last′ (read-rows node-reading bytes)) Same) is-l served in
+      let two = subst (λ (m : Meaning Node). Served (split-check (near-home near) m) (morning (near-home near) m orders) l (table-meaning p last rows) (table-meaning q last′ (read-rows node-reading bytes)) Same) is-r one in
+      let three = tables-from l p q last last′ rows bytes Same (ap length (sym is-near) ∙ long-near) (ap length (sym is-far) ∙ long-far) (λ s. (sym is-near ∙ same s .0, sym is-far ∙ same s .1)) in-near in-far two in
       subst (λ (xs : List (Row Node)). Tables (curve-check near far) (morning (near-home near) (far-home far) orders) near xs far far′) (sym is-near)
       (subst (λ (ys : List ℕ). Tables (curve-check near far) (morning (near-home near) (far-home far) orders) near rows far ys) (sym is-far) three)

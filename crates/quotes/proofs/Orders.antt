@@ -21,8 +21,9 @@ use Rattle.home.specs.Rows.{Outcome, refuses, grants, amended, lease-of}
 use Rattle.home.specs.Meaning.{Meaning, Sound, after, answer, changed, end-of, fair, fault-at, found, is-place, looked, no-key, nothing, raised, well-placed}
 use Rattle.home.proofs.Calls.{fair-at}
 use Rattle.home.proofs.Laws.{after-twice, changed-at, found-after, granted, granted-from, granted-place, looked-at}
+use Rattle.kinds.specs.Words.{with-rate}
 use Rattle.kinds.specs.declared.node.Node.{Node}
-use Rattle.quotes.specs.Orders.{after-hold, kept, kept-at, let-go, quoted, requoted, withdrawn, written}
+use Rattle.quotes.specs.Orders.{after-hold, kept, kept-at, let-go, quoted, withdrawn, written}
 
 -- a held row: its lease ends before the last timestamp, and the place is its holder
 pub held-row : (m : Meaning Node) (key place : ℕ) (held : Row Node) → Sound m → changed m key (Hold place) ≡ grants held → (is-place place ≡ true) × (held .holder ≡ place) × (held .rts < m .last) × (nth (after m key (changed m key (Hold place)) .rows) key ≡ Some held)
@@ -85,18 +86,18 @@ module _ (m n : Meaning Node) (key place : ℕ) (lease : Lease) (s : Sound m) (o
   never-gone fault is = let h = is-there in let z : _≡_ {A = ℕ} 0 1 = cc in omega arith
 
   -- it can be written
-  puts : (row : Row Node) (rate : ℤ) (new : Node) → Ok row ≡ looked n key → new ≡ requoted rate (row .value) → changed n key (Put place new (lease .rts + 1)) ≡ grants (written rate (held .0))
+  puts : (row : Row Node) (rate : ℤ) (new : Node) → Ok row ≡ looked n key → new ≡ with-rate (row .value) rate → changed n key (Put place new (lease .rts + 1)) ≡ grants (written rate (held .0))
   puts row rate new at is =
       let h = is-there in
       let same : held .0 ≡ row = cc in
-      let v : new ≡ requoted rate (held .0 .value) = is ∙ ap (λ (x : Row Node). requoted rate (x .value)) (sym same) in
+      let v : new ≡ with-rate (held .0 .value) rate = is ∙ ap (λ (x : Row Node). with-rate (x .value) rate) (sym same) in
       let t : lease .rts + 1 ≡ held .0 .rts + 1 = ap (λ (l : Lease). l .rts + 1) (held .2) in
       ap (λ x. changed x key (Put place new (lease .rts + 1))) then
       ∙ ap (λ x. changed (after m key (changed m key (Hold place))) key (Put place x (lease .rts + 1))) v
-      ∙ ap (λ x. changed (after m key (changed m key (Hold place))) key (Put place (requoted rate (held .0 .value)) x)) t
+      ∙ ap (λ x. changed (after m key (changed m key (Hold place))) key (Put place (with-rate (held .0 .value) rate) x)) t
       ∙ put-held m key place (held .0) rate s (held .1)
 
-  pub never-barred : (row : Row Node) (rate : ℤ) (new : Node) (fault : Fault) → Ok row ≡ looked n key → new ≡ requoted rate (row .value) → Err fault ≡ answer nothing place key (changed n key (Put place new (lease .rts + 1))) → ⊥
+  pub never-barred : (row : Row Node) (rate : ℤ) (new : Node) (fault : Fault) → Ok row ≡ looked n key → new ≡ with-rate (row .value) rate → Err fault ≡ answer nothing place key (changed n key (Put place new (lease .rts + 1))) → ⊥
   never-barred row rate new fault at is no′ = let h = no′ ∙ ap (answer nothing place key) (puts row rate new at is) in let z : _≡_ {A = ℕ} 0 1 = cc in omega arith
 
   pub quote-answer : (rate : ℤ) → Ok (lease .rts + 1) ≡ answer end-of place key (quoted m key place rate)
@@ -104,7 +105,7 @@ module _ (m n : Meaning Node) (key place : ℕ) (lease : Lease) (s : Sound m) (o
       let t : lease .rts + 1 ≡ held .0 .rts + 1 = ap (λ (l : Lease). l .rts + 1) (held .2) in
       ap (λ x. Ok x) t ∙ sym (ap (answer end-of place key) (quote-done m key place rate (held .0) (held .1)))
 
-  pub quote-after : (row : Row Node) (rate : ℤ) (new : Node) → Ok row ≡ looked n key → new ≡ requoted rate (row .value) → after n key (changed n key (Put place new (lease .rts + 1))) ≡ after m key (quoted m key place rate)
+  pub quote-after : (row : Row Node) (rate : ℤ) (new : Node) → Ok row ≡ looked n key → new ≡ with-rate (row .value) rate → after n key (changed n key (Put place new (lease .rts + 1))) ≡ after m key (quoted m key place rate)
   quote-after row rate new at is =
       ap (after n key) (puts row rate new at is)
       ∙ ap (λ x. after x key (grants (written rate (held .0)))) (then ∙ ap (after m key) (held .1))

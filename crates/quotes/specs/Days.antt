@@ -7,7 +7,7 @@
 use Prim.Native.Nat.{ℕ, _+_, min}
 use mathlib.Core.Path.{_≡_}
 use mathlib.Core.List.{List, [], _∷_, _++_}
-use lib.ListN.{getD, replicate, set}
+use lib.ListN.{getD, length, replicate, set}
 use Rattle.std.specs.declared.result.Result.{Result}
 use Rattle.std.specs.declared.result.Result.the-variants.{Ok, Err}
 use Rattle.home.specs.declared.fault.Fault.{Fault}
@@ -66,12 +66,12 @@ abbrev pub morning-answer : Result (Unit {0}) Fault → Day → Result Tally Fau
 morning-answer (Ok _) d = Ok (d .tally)
 morning-answer (Err fault) d = Err fault
 
--- What the two homes then mean: the rows of the whole; where they do not go together, both are as they were.
-abbrev pub Served : Result (Unit {0}) Fault → Day → (l′ r′ : Meaning Node) → Type 0 → Type 0
-Served (Ok _) d l′ r′ Same = l′ .rows ++ r′ .rows ≡ d .home .rows
-Served (Err fault) d l′ r′ Same = Same
+-- What the two homes then mean: the rows of the whole, the left one's as many as before; where they do not go together, both are as they were.
+abbrev pub Served : Result (Unit {0}) Fault → Day → (l l′ r′ : Meaning Node) → Type 0 → Type 0
+Served (Ok _) d l l′ r′ Same = (l′ .rows ++ r′ .rows ≡ d .home .rows) × (length (l′ .rows) ≡ length (l .rows))
+Served (Err fault) d l l′ r′ Same = Same
 
--- What the caller's tables then hold: the rows of the whole, or what they held.
+-- What the caller's tables then hold: the rows of the whole, each as many as before; or what they held.
 abbrev pub Tables : Result (Unit {0}) Fault → Day → (near near′ : List (Row Node)) (far far′ : List ℕ) → Type 0
-Tables (Ok _) d near near′ far far′ = near′ ++ read-rows node-reading far′ ≡ d .home .rows
+Tables (Ok _) d near near′ far far′ = (near′ ++ read-rows node-reading far′ ≡ d .home .rows) × (length near′ ≡ length near) × (length far′ ≡ length far)
 Tables (Err fault) d near near′ far far′ = (near′ ≡ near) × (far′ ≡ far)

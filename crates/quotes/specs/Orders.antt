@@ -1,5 +1,4 @@
 -- What an order makes of the node that it is about.
---   requoted rate node           the node with another rate
 --   quoted m key place rate      a node that can be held stands with the new rate, at the first timestamp past its lease
 --   withdrawn m key place        a node that can be held stays as it was
 --   kept m key t                 the standing version lasts until t
@@ -18,15 +17,13 @@ use Rattle.home.specs.declared.row.Row.{Row}
 use Rattle.home.specs.declared.row.Change.the-variants.{Free, Hold, Renew}
 use Rattle.home.specs.Rows.{Outcome, refuses, grants}
 use Rattle.home.specs.Meaning.{Meaning, after, answer, changed, no-key, nothing}
+use Rattle.kinds.specs.Words.{with-rate}
 use Rattle.kinds.specs.declared.node.Node.{Node}
 use Rattle.quotes.specs.declared.order.Order.{Order}
 use Rattle.quotes.specs.declared.order.Order.the-variants.{Quote, Withdraw, Take, Release, Keep}
 
-abbrev pub requoted : ℤ → Node → Node
-requoted rate node = record { «day_less_one» = node .«day_less_one»; rate = rate }
-
 abbrev pub written : ℤ → Row Node → Row Node
-written rate row = record { value = requoted rate (row .value); wts = row .rts + 1; rts = row .rts + 1; holder = 0 }
+written rate row = record { value = with-rate (row .value) rate; wts = row .rts + 1; rts = row .rts + 1; holder = 0 }
 
 abbrev pub after-hold : (Row Node → Row Node) → Outcome Node → Outcome Node
 after-hold f (refuses cause) = refuses cause

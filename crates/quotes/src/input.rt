@@ -1,4 +1,5 @@
-// The text of a morning: the curve, then the orders, a line each.
+// The text of a morning: the nodes of a curve and the orders for it, a line each.
+ghost use mathlib.Core.Path.{_≡_};
 use crate::order::Order;
 use byte_home::pack_row;
 use home::Row;
@@ -58,7 +59,7 @@ pub fn read_line(line: &str) -> Option<Line> {
 
 // A morning's text, read: the curve in two tables, with every lease from 0 to 0, and what to do.
 #[derive(Drop)]
-pub struct Curve {
+pub struct MorningText {
     pub near: Vec<Row<Node>>,
     pub far: Vec<u8>,
     pub orders: Vec<Order>,
@@ -85,31 +86,27 @@ impl<T: Drop> From<Refused<T>> for Unread as UnreadRefused {
 }
 
 // Reads the whole text, a line each.
-pub fn read_curve(heap: Global, text: &str) -> Result<Curve, Unread> {
-    let mut curve = Curve {
+pub fn read_text(heap: Global, text: &str) -> Result<MorningText, Unread> {
+    let mut morning = MorningText {
         near: Vec::new(heap),
         far: Vec::new(heap),
         orders: Vec::new(heap),
     };
     for (above, line) in text.lines().enumerate() {
         match read_line(line) {
-            Some(read) => curve.add(read)?,
+            Some(read) => morning.add(read)?,
             None => return Err(Unread::BadLine(above.saturating_add(1))),
         }
     }
-    Ok(curve)
+    Ok(morning)
 }
 
-impl Curve {
+impl MorningText {
     // Takes in what one line says.
     fn add(&mut self, line: Line) -> Result<(), Unread> {
         match line {
             Line::Near(node) => self.near.push(fresh(node))?,
-            Line::Far(node) => {
-                if let Some(bytes) = pack_row(fresh(node)) {
-                    self.far.extend_from_slice(&bytes)?;
-                }
-            }
+            Line::Far(node) => self.far.extend_from_slice(&pack_row(fresh(node)).unwrap())?,
             Line::Order(order) => self.orders.push(order)?,
         }
         Ok(())
@@ -117,7 +114,9 @@ impl Curve {
 }
 
 // A node that nobody holds, with its lease at the beginning of time.
-fn fresh(node: Node) -> Row<Node> {
+fn fresh(node: Node) -> Row<Node>
+    ensures { λ r. ⌜ r ≡ record { value = node; wts = 0; rts = 0; holder = 0 } ⌝ }
+{
     Row {
         value: node,
         wts: 0,

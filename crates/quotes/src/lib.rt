@@ -5,11 +5,11 @@ mod order;
 mod serve;
 mod tally;
 
-pub use input::Curve;
 pub use input::Line;
+pub use input::MorningText;
 pub use input::Unread;
-pub use input::read_curve;
 pub use input::read_line;
+pub use input::read_text;
 pub use morning::run_morning;
 pub use morning::serve_all;
 pub use morning::serve_both;

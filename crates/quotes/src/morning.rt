@@ -5,6 +5,7 @@ ghost use Rattle.quotes.specs.Days.{Served, Tables, curve-check, day, far-home
 use crate::order::Order;
 use crate::serve::serve_order;
 use crate::tally::Tally;
+use byte_home::BYTE_LAST;
 use byte_home::ByteHome;
 use byte_home::ByteHomeCalls;
 use home::Fault;
@@ -16,9 +17,6 @@ use row_home::RowHome;
 use row_home::RowHomeCalls;
 use split_home::SplitHome;
 use split_home::SplitHomeCalls;
-
-// The last timestamp of the curve, which is that of every byte home.
-const LAST: u64 = 4_294_967_295;
 
 // Serves the orders one after another, and counts what was done and refused.
 pub fn serve_all<H: Home<Value = Node>>(home: &mut H, orders: &[Order]) -> Tally
@@ -42,7 +40,7 @@ pub fn serve_both<L: Home<Value = Node>, R: Home<Value = Node>>(
     orders: &[Order],
 ) -> Result<Tally, Fault>
     ensures answer { λ r. ⌜ r ≡ morning-answer (split-check (L·Home .meaning (now (left .entry))) (R·Home .meaning (now (right .entry)))) (morning (L·Home .meaning (now (left .entry))) (R·Home .meaning (now (right .entry))) (now (orders .entry))) ⌝ }
-    ensures served { λ _. ⌜ Served (split-check (L·Home .meaning (now (left .entry))) (R·Home .meaning (now (right .entry)))) (morning (L·Home .meaning (now (left .entry))) (R·Home .meaning (now (right .entry))) (now (orders .entry))) (L·Home .meaning (now (left .exit))) (R·Home .meaning (now (right .exit))) ((now (left .exit) ≡ now (left .entry)) × (now (right .exit) ≡ now (right .entry))) ⌝ }
+    ensures served { λ _. ⌜ Served (split-check (L·Home .meaning (now (left .entry))) (R·Home .meaning (now (right .entry)))) (morning (L·Home .meaning (now (left .entry))) (R·Home .meaning (now (right .entry))) (now (orders .entry))) (L·Home .meaning (now (left .entry))) (L·Home .meaning (now (left .exit))) (R·Home .meaning (now (right .exit))) ((now (left .exit) ≡ now (left .entry)) × (now (right .exit) ≡ now (right .entry))) ⌝ }
     ensures memory { λ _. ⌜ L·Home .memory (now (left .exit)) ≡ L·Home .memory (now (left .entry)) ⌝ ∗ ⌜ R·Home .memory (now (right .exit)) ≡ R·Home .memory (now (right .entry)) ⌝ }
 {
     SplitHome::check(left, right)?;
@@ -57,9 +55,9 @@ pub fn run_morning(near: &mut [Row<Node>], far: &mut [u8], orders: &[Order]) -> 
     ensures answer { λ r. ⌜ r ≡ morning-answer (curve-check (now (near .entry)) (now (far .entry))) (morning (near-home (now (near .entry))) (far-home (now (far .entry))) (now (orders .entry))) ⌝ }
     ensures tables { λ _. ⌜ Tables (curve-check (now (near .entry)) (now (far .entry))) (morning (near-home (now (near .entry))) (far-home (now (far .entry))) (now (orders .entry))) (now (near .entry)) (now (near .exit)) (now (far .entry)) (now (far .exit)) ⌝ }
 {
-    RowHome::check(near, LAST)?;
+    RowHome::check(near, BYTE_LAST)?;
     ByteHome::<Node>::check(far)?;
-    let mut left = RowHome::make(near, LAST);
+    let mut left = RowHome::make(near, BYTE_LAST);
     let mut right = ByteHome::<Node>::make(far);
     serve_both(&mut left, &mut right, orders)
 }

@@ -5,7 +5,7 @@ pub enum Order {
     Quote { place: u32, key: u32, rate: i32 },
     // A desk begins to quote, and thinks better of it.
     Withdraw { place: u32, key: u32 },
-    // A desk holds the node for a quote to come.
+    // A desk holds the node and keeps it: nobody can quote it until it is released.
     Take { place: u32, key: u32 },
     // A desk that holds the node gives it up.
     Release { place: u32, key: u32 },

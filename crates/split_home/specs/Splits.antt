@@ -47,9 +47,9 @@ split-made l r (Err _) = record { last = l .last; rows = [] }
 abbrev pub split-opened : {V : Type 0} → Meaning V → Meaning V → Meaning V
 split-opened l r = split-made l r (split-check l r)
 
--- The number of keys on the left, where the two fit.
-abbrev pub split-count : {V : Type 0} → Meaning V → Meaning V → Option ℕ
-split-count l r = cond (split-fits l r) (Some (length (l .rows))) None
+-- The counts of the two, where they fit.
+abbrev pub split-counts : {V : Type 0} → Meaning V → Meaning V → Option (ℕ × ℕ)
+split-counts l r = cond (split-fits l r) (Some (length (l .rows), length (r .rows))) None
 
 abbrev pub side-from : ℕ → ℕ → ℕ → Side
 side-from left right key = cond (ltb key left) Left (cond (ltb (key - left) right) (Right (key - left)) Neither)

@@ -2,7 +2,7 @@
 ghost use mathlib.Core.Path.{_≡_};
 ghost use denote.Ref.{name, now};
 ghost use Rattle.home.specs.Meaning.{Sound};
-ghost use Rattle.split_home.specs.Splits.{absent, renamed, side-of, split-count, split-meaning, split-memory};
+ghost use Rattle.split_home.specs.Splits.{absent, renamed, side-of, split-counts, split-meaning, split-memory};
 use crate::Side;
 use crate::SplitHome;
 use home::Cause;
@@ -26,8 +26,8 @@ pub impl<'a, 'b, L: Home, R: Home<Value = L::Value>> Home for SplitHome<
     ghost memory = { λ h. split-memory (name (h .left)) (L·Home .memory (now (h .left))) (name (h .right)) (R·Home .memory (now (h .right))) (L·Home .meaning (now (h .left))) (R·Home .meaning (now (h .right))) };
 
     fn count(&self) -> u32 {
-        match self.left_count() {
-            Some(left) => left + self.right.count(),
+        match self.counts() {
+            Some((left, right)) => left + right,
             None => 0,
         }
     }
@@ -78,15 +78,16 @@ pub impl<'a, 'b, L: Home, R: Home<Value = L::Value>> Home for SplitHome<
 }
 
 impl<'a, 'b, L: Home, R: Home<Value = L::Value>> SplitHome<'a, 'b, L, R> {
-    // The number of keys on the left, where the two homes go together. It is tested at each call, since no
-    // fact about the two homes can be kept with them.
-    fn left_count(&self) -> Option<u32>
-        ensures answer { λ r. ⌜ r ≡ split-count (L·Home .meaning (now (now (self .entry) .left))) (R·Home .meaning (now (now (self .entry) .right))) ⌝ }
+    // The counts of the two homes, where they go together. It is asked at each call, since no fact about the two
+    // can be kept with them.
+    fn counts(&self) -> Option<(u32, u32)>
+        ensures answer { λ r. ⌜ r ≡ split-counts (L·Home .meaning (now (now (self .entry) .left))) (R·Home .meaning (now (now (self .entry) .right))) ⌝ }
         ensures sound { λ _. ⌜ Sound (split-meaning (L·Home .meaning (now (now (self .entry) .left))) (R·Home .meaning (now (now (self .entry) .right)))) ⌝ }
     {
         let left = self.left.count();
-        match left + self.right.count() {
-            1..=65_535 if self.left.last() == self.right.last() => Some(left),
+        let right = self.right.count();
+        match left + right {
+            1..=65_535 if self.left.last() == self.right.last() => Some((left, right)),
             _ => None,
         }
     }
@@ -96,9 +97,9 @@ impl<'a, 'b, L: Home, R: Home<Value = L::Value>> SplitHome<'a, 'b, L, R> {
         ensures answer { λ r. ⌜ r ≡ side-of (L·Home .meaning (now (now (self .entry) .left))) (R·Home .meaning (now (now (self .entry) .right))) key ⌝ }
         ensures sound { λ _. ⌜ Sound (split-meaning (L·Home .meaning (now (now (self .entry) .left))) (R·Home .meaning (now (now (self .entry) .right)))) ⌝ }
     {
-        match self.left_count() {
-            Some(left) if key < left => Side::Left,
-            Some(left) if key - left < self.right.count() => Side::Right(key - left),
+        match self.counts() {
+            Some((left, _)) if key < left => Side::Left,
+            Some((left, right)) if key - left < right => Side::Right(key - left),
             _ => Side::Neither,
         }
     }
@@ -110,13 +111,7 @@ fn with_key<A>(key: u32, answer: Result<A, Fault>) -> Result<A, Fault>
 {
     match answer {
         Ok(a) => Ok(a),
-        Err(fault) => Err(Fault {
-            refusal: fault.refusal,
-            layer: fault.layer,
-            place: fault.place,
-            key,
-            detail: fault.detail,
-        }),
+        Err(fault) => Err(Fault { key, ..fault }),
     }
 }
 

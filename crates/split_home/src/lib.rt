@@ -13,7 +13,7 @@ pub struct SplitHome<'a, 'b, L, R> {
 }
 
 // Which of the two homes has a key, and the key that the right one knows it by.
-pub enum Side {
+pub(crate) enum Side {
     Left,
     Right(u32),
     Neither,

@@ -30,5 +30,5 @@ returns c =
     let in-right : cond (right .passed) [] (right .bytes .now) ≡ [] = bytes-free _ _ _ _ _ _ (c .serve-both .ensures .memory .1 ∙ c .make-right .ensures .memory) byte-ok in
     record {
       answer = search needs;
-      tables = tables-after near far (c .args .orders .now) _ _ row-ok byte-ok _ _ (left .passed) (right .passed) (left .last) 4294967295 (left .rows .now) _ (right .bytes .now) _ _ (c .make-left .ensures .meaning) (c .make-right .ensures .meaning) (search needs) (search needs) (λ s. (search needs, search needs)) in-left in-right (c .serve-both .ensures .served);
+      tables = tables-after near far (c .args .orders .now) _ _ row-ok byte-ok _ _ (left .passed) (right .passed) (left .last) 4294967295 (left .rows .now) _ (right .bytes .now) _ _ (c .make-left .ensures .meaning) (c .make-right .ensures .meaning) (search needs) (search needs) (search needs) (search needs) (λ s. (search needs, search needs)) in-left in-right (c .serve-both .ensures .served);
     }

@@ -5,7 +5,7 @@ use Rattle.home.specs.declared.row.Change.the-variants.{Hold}
 use Rattle.home.specs.Rows.{lease-of}
 use Rattle.home.specs.Meaning.{changed}
 use Rattle.home.proofs.Laws.{refused-from}
-use Rattle.quotes.specs.Orders.{requoted}
+use Rattle.kinds.specs.Words.{with-rate}
 use Rattle.quotes.proofs.Orders.{never-barred, never-gone, next-fits, quote-after, quote-answer, quote-refused}
 use Rattle.quotes.proofs.serve.quote.Needs as need
 
@@ -39,7 +39,7 @@ returns-in-Break-put g c =
     let n = g .H·Home .meaning (c .hold .last .self) in
     let k = c .args .key in
     let p = c .args .place in
-    let new : c .with-rate .result ≡ requoted (c .args .rate) (c .in-Continue-row .row .value) = search needs in
+    let new : c .with-rate .result ≡ with-rate (c .in-Continue-row .row .value) (c .args .rate) = search needs in
     absurd (never-barred m n k p _ (c .hold .ensures .sound) (c .in-Continue-lease .ensures tt .answer) (c .hold .ensures .after) _ (c .args .rate) _ _ (c .in-Continue-row .ensures tt .answer) new (c .in-Break-put .ensures tt .answer))
 
 pub returns : need.returns
@@ -48,7 +48,7 @@ returns g c =
     let n = g .H·Home .meaning (c .hold .last .self) in
     let k = c .args .key in
     let p = c .args .place in
-    let new : c .with-rate .result ≡ requoted (c .args .rate) (c .in-Continue-row .row .value) = search needs in
+    let new : c .with-rate .result ≡ with-rate (c .in-Continue-row .row .value) (c .args .rate) = search needs in
     record {
       answer = quote-answer m n k p _ (c .hold .ensures .sound) (c .in-Continue-lease .ensures tt .answer) (c .hold .ensures .after) (c .args .rate);
       after = c .put .ensures .after ∙ quote-after m n k p _ (c .hold .ensures .sound) (c .in-Continue-lease .ensures tt .answer) (c .hold .ensures .after) _ (c .args .rate) _ (c .in-Continue-row .ensures tt .answer) new;
