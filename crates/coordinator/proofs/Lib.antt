@@ -1,0 +1,3 @@
+pub mod Holds
+pub mod Openings
+pub mod Sheets
