@@ -17,14 +17,14 @@ pub struct Place {
 
 impl Place {
     // The number of entries in use, at most 16.
-    pub fn used(&self) -> u8
+    pub(crate) fn used(&self) -> u8
         ensures { λ r. ⌜ r ≡ used-of (now (self .entry)) ⌝ }
     {
         self.used.min(16)
     }
 
     // How far the entries are handled, at most to the last one in use.
-    pub fn cursor(&self) -> u8
+    pub(crate) fn cursor(&self) -> u8
         ensures { λ r. ⌜ r ≡ cursor-of (now (self .entry)) ⌝ }
     {
         self.cursor.min(self.used())
