@@ -6,6 +6,6 @@ pub returns : goal.returns
 unfolding byte_check
 returns g c = search rules
 
-pub returns-in-err-check-size : goal.returns-in-err-check-size
+pub returns-in_err-check_size : goal.returns-in_err-check_size
 unfolding byte_check
-returns-in-err-check-size g c = search rules
+returns-in_err-check_size g c = search rules

@@ -9,12 +9,12 @@ returns-in-true g c =
     let read = g.K.Kind.reading in
     let s = bytes_sound read t.passed t.bytes.now t.sound in
     let at = nth_read_rows read t.bytes.now c.args.key c.if-key-bytes.true in
-    let value : c.revalued.result ≡ valued read c.row-at-row.result = c.revalued.ensures ∙ ap (λ v. valued (λ _. v) c.row-at-row.result) c.read.ensures in
-    let row : c.revalued.result ≡ valued read (row_at t.bytes.now c.args.key) = value ∙ ap (valued read) c.row-at-row.ensures in
+    let value : c.revalued.result ≡ valued read c.row_at-row.result = c.revalued.ensures ∙ ap (λ v. valued (λ _. v) c.row_at-row.result) c.read.ensures in
+    let row : c.revalued.result ≡ valued read (row_at t.bytes.now c.args.key) = value ∙ ap (valued read) c.row_at-row.ensures in
     search rules
 
-pub returns-in-default : goal.returns-in-default
-returns-in-default g c =
+pub returns-in_default : goal.returns-in_default
+returns-in_default g c =
     let t = c.args.self.now in
     let s = bytes_sound g.K.Kind.reading t.passed t.bytes.now t.sound in
     search (rules, nth_no_row)

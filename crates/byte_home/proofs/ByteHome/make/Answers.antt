@@ -4,16 +4,16 @@ use Rattle.byte_home.specs.Bytes.{byte_check}
 use Rattle.byte_home.proofs.ByteOpening.{opened}
 use Rattle.byte_home.proofs.ByteHome.make.Goals as goal
 
-pub invariant-of-result : goal.invariant-of-result
-invariant-of-result g c =
+pub invariant_of-result : goal.invariant_of-result
+invariant_of-result g c =
     let kind = g.K.Kind in
-    let passed : c.is-ok-passed.result ≡ is_ok (byte_check kind.unpacked c.args.bytes.now) = c.is-ok-passed.ensures.value ∙ ap is_ok c.check.ensures in
-    ((opened kind.unpacked kind.reading g.met.K.Kind.right c.args.bytes.now _ passed).0, tt)
+    let passed : c.is_ok-passed.result ≡ is_ok (byte_check kind.unpacked c.args.bytes.now) = c.is_ok-passed.ensures.value ∙ ap is_ok c.check.ensures in
+    record { sound = (opened kind.unpacked kind.reading g.met.K.Kind.right c.args.bytes.now _ passed).0 }
 
 pub returns : goal.returns
 returns g c =
     let kind = g.K.Kind in
-    let passed : c.is-ok-passed.result ≡ is_ok (byte_check kind.unpacked c.args.bytes.now) = c.is-ok-passed.ensures.value ∙ ap is_ok c.check.ensures in
+    let passed : c.is_ok-passed.result ≡ is_ok (byte_check kind.unpacked c.args.bytes.now) = c.is_ok-passed.ensures.value ∙ ap is_ok c.check.ensures in
     record {
       meaning = (opened kind.unpacked kind.reading g.met.K.Kind.right c.args.bytes.now _ passed).1;
       table = (refl, refl);

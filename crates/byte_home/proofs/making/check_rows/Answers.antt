@@ -5,12 +5,12 @@ use Rattle.byte_home.proofs.making.check_rows.Goals as goal
 
 pub returns-in-Some : goal.returns-in-Some
 returns-in-Some g c =
-    let h = bad_row_more (byte_flaw g.K.Kind.unpacked) c.args.bytes.now c.loop-key.key c.row-at.result c.loop-key-test.true c.row-at.ensures in
+    let h = bad_row_more (byte_flaw g.K.Kind.unpacked) c.args.bytes.now c.loop-key.key c.row_at.result c.loop-key-test.true c.row_at.ensures in
     search rules
 
 pub loop-key-preserved : goal.loop-key-preserved
 loop-key-preserved g c =
-    let h = bad_row_more (byte_flaw g.K.Kind.unpacked) c.args.bytes.now c.loop-key.key c.row-at.result c.loop-key-test.true c.row-at.ensures in
+    let h = bad_row_more (byte_flaw g.K.Kind.unpacked) c.args.bytes.now c.loop-key.key c.row_at.result c.loop-key-test.true c.row_at.ensures in
     search rules
 
 pub returns : goal.returns

@@ -3,23 +3,23 @@ use Rattle.quotes.specs.Days.{curve_check}
 use Rattle.quotes.proofs.Days.{bytes_free, curve_as_split, rows_free, tables_after}
 use Rattle.quotes.proofs.morning.run_morning.Goals as goal
 
-pub returns-in-err-check : goal.returns-in-err-check
+pub returns-in_err-check : goal.returns-in_err-check
 unfolding curve_check
-returns-in-err-check c = let h = c.in-err-check.ensures in search rules
+returns-in_err-check c = let h = c.in_err-check.ensures in search rules
 
-pub returns-in-err-check-2 : goal.returns-in-err-check-2
+pub returns-in_err-check-2 : goal.returns-in_err-check-2
 unfolding curve_check
-returns-in-err-check-2 c =
-    let h = c.in-err-check-2.ensures in
-    let k = c.in-ok-check.ensures in
+returns-in_err-check-2 c =
+    let h = c.in_err-check-2.ensures in
+    let k = c.in_ok-check.ensures in
     search rules
 
 pub returns : goal.returns
 returns c =
     let near = c.args.near.now in
     let far = c.args.far.now in
-    let row_ok = sym c.in-ok-check.ensures in
-    let byte_ok = sym c.in-ok-check-2.ensures in
+    let row_ok = sym c.in_ok-check.ensures in
+    let byte_ok = sym c.in_ok-check-2.ensures in
     let as-split = curve_as_split near far c.args.orders.now _ _ row_ok byte_ok in
     let left = c.serve-both.new.left in
     let right = c.serve-both.new.right in

@@ -6,7 +6,7 @@ use Rattle.quotes.proofs.morning.serve_all.Goals as goal
 pub loop-order-preserved : goal.loop-order-preserved
 loop-order-preserved g c =
     let d : Day = record { home = g.H.Home.meaning c.loop-order.home; tally = c.loop-order.tally } in
-    let e = c.serve-order-answer.ensures in
+    let e = c.serve_order-answer.ensures in
     let h = day_more d c.args.orders.now c.loop-order.order-index _ _ _ _ c.loop-order-test.true e.after e.answer c.count.ensures in
     (c.loop-order.invariant.0 ∙ h, e.memory ∙ c.loop-order.invariant.1)
 

@@ -6,8 +6,8 @@ pub returns : goal.returns
 returns g c =
     let l = g.L.Home.meaning c.args.left.now in
     let r = g.R.Home.meaning c.args.right.now in
-    let t = two_parts _ _ _ _ _ _ _ _ _ _ c.serve-all.ensures.memory in
-    let ok = sym c.in-ok-check.ensures in
+    let t = two_parts _ _ _ _ _ _ _ _ _ _ c.serve_all.ensures.memory in
+    let ok = sym c.in_ok-check.ensures in
     record {
       answer = both_answer l l r r c.args.orders.now _ ok _ (search rules);
       served = both_served l _ r _ c.args.orders.now _ ok _ (search rules) (search rules);

@@ -7,10 +7,10 @@ use Rattle.quotes.specs.Orders.{let_go, written}
 use Rattle.quotes.proofs.Orders.{keep_missing, keep_none, keep_there}
 use Rattle.quotes.proofs.serve.keep.Goals as goal
 
-pub returns-in-err-row : goal.returns-in-err-row
-returns-in-err-row g c =
+pub returns-in_err-row : goal.returns-in_err-row
+returns-in_err-row g c =
     let m = g.H.Home.meaning c.args.home.now in
-    let is = sym c.in-err-row.ensures.answer in
+    let is = sym c.in_err-row.ensures.answer in
     let a = keep_missing m c.args.key c.args.t _ is in
     let b = keep_none m c.args.key c.args.t _ is in
     search rules
@@ -18,5 +18,5 @@ returns-in-err-row g c =
 pub returns : goal.returns
 returns g c =
     let m = g.H.Home.meaning c.args.home.now in
-    let a = keep_there m c.args.key c.args.t _ (sym c.in-ok-row.ensures.answer) in
+    let a = keep_there m c.args.key c.args.t _ (sym c.in_ok-row.ensures.answer) in
     search rules

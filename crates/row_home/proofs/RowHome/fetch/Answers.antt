@@ -5,5 +5,5 @@ use Rattle.row_home.proofs.RowHome.fetch.Goals as goal
 pub returns-in-true : goal.returns-in-true
 returns-in-true g c = search (rules, slice_get_read)
 
-pub returns-in-default : goal.returns-in-default
-returns-in-default g c = search (rules, slice_get_past)
+pub returns-in_default : goal.returns-in_default
+returns-in_default g c = search (rules, slice_get_past)

@@ -3,8 +3,8 @@ use Rattle.byte_home.specs.Bytes.{read_rows}
 use Rattle.byte_home.proofs.ByteTables.{bytes_sound, few_bytes, length_read_rows}
 use Rattle.byte_home.proofs.calls.ByteHomeHome.count.Goals as goal
 
-pub overflow-cast-result : goal.overflow-cast-result
-overflow-cast-result g c =
+pub overflow_cast-result : goal.overflow_cast-result
+overflow_cast-result g c =
     let t = c.args.self.now in
     let few : length t.bytes.now / 17 ≤ 65535 = few_bytes g.K.Kind.reading t.passed t.bytes.now c.if-self.true t.sound in
     omega arith
