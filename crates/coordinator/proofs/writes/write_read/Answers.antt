@@ -8,4 +8,4 @@ returns-in-Some g c = let h = c.in-Some.ensures in search rules
 
 pub returns : goal.returns
 unfolding comparing_at
-returns g c = let h = c.moved-on.ensures in search rules
+returns g c = let h = c.moved_on.ensures in search rules
