@@ -4,7 +4,7 @@
 --   keeps_decide                          the invariant after any decide
 use Rattle.std.proofs.Common.{◌≡◌, ℕ, zero, suc, ◌+◌, ◌<◌, ◌≤◌, Bool, true, false, cond, eqb, ltb, leb, List, [], ◌∷◌, length, drop, Some, None, Ok, Err, Option, Result, sym, refl, ap, ◌∙◌, subst, arith}
 use Rattle.std.specs.List.{slice_get}
-use Rattle.std.proofs.ByRecursion.{AllWeaker}
+use Rattle.std.proofs.ByRecursion.{All-weaker}
 use Rattle.std.proofs.lemmas.Bool.Decides.{nat_tests}
 use Rattle.home.specs.declared.fault.Fault.{Fault}
 use Rattle.home.specs.declared.fault.Refusal.TheVariants.{DayFull, Unchecked}
@@ -221,7 +221,7 @@ module _ {V : Type 0} where
 
         skips : AfterSkip k it us
         skips =
-            AllWeaker (Skips won) (Skips (Some (v, it.ts)))
+            All-weaker (Skips won) (Skips (Some (v, it.ts)))
             (λ t h late. h (let n = ap (λ (o : Option (V × ℕ)). bound o row) none in let a = above in omega arith)) us old.quiet
 
         by_time : (τ : ℕ) → row.wts ≤ τ → (c : Bool) → leb it.ts τ ≡ c → value_upto k x τ (insert it us) ≡ Some (cond c v row.value)
@@ -292,7 +292,7 @@ module _ {V : Type 0} where
 
       newest : Newest (commit_of number seat) (serial_order es)
       newest =
-          AllWeaker (λ (t : Transaction V). t.number ≤ st.counter) (λ (t : Transaction V). t.number < number)
+          All-weaker (λ (t : Transaction V). t.number ≤ st.counter) (λ (t : Transaction V). t.number < number)
           (λ t h. let c = counts in omega arith) (serial_order es) i.numbered
 
       seated_decided : Seated (decided_seat seat)
@@ -331,7 +331,7 @@ module _ {V : Type 0} where
             sorted = sorted_insert (commit_of number seat) (serial_order es) i.sorted newest;
             numbered =
                 all_insert (λ (t : Transaction V). t.number ≤ number) (commit_of number seat) (serial_order es) (omega arith)
-                (AllWeaker (λ (t : Transaction V). t.number < number) (λ (t : Transaction V). t.number ≤ number)
+                (All-weaker (λ (t : Transaction V). t.number < number) (λ (t : Transaction V). t.number ≤ number)
                 (λ t h. omega arith) (serial_order es) newest);
             limit = (let l = i.limit in let d : (count_of st.counter ≡ 999999 → ⊥) = grind (arith, nat_tests) in omega arith);
             holds = i.holds;

@@ -1,7 +1,7 @@
 -- renew: one entry of a frozen place is passed, and its lease made to reach the transaction's timestamp where it falls short.
 use Rattle.std.proofs.Common.{◌≡◌, ℕ, zero, suc, ◌+◌, ◌-◌, ◌<◌, ◌≤◌, Bool, true, false, cond, ◌||◌, eqb, leb, ◌⊎◌, List, [], ◌∷◌, length, set, Some, None, Ok, Err, Option, Result, sym, refl, ap, ◌∙◌, subst, inl, inr, arith, length-set}
 use Rattle.std.specs.List.{slice_get}
-use Rattle.std.proofs.ByRecursion.{AllWeaker}
+use Rattle.std.proofs.ByRecursion.{All-weaker}
 use Rattle.std.proofs.lemmas.Bool.Decides.{eqb_tells, nat_tests}
 use Rattle.home.specs.declared.fault.Fault.{Fault}
 use Rattle.home.specs.declared.row.Row.{Row}
@@ -88,7 +88,7 @@ module _ {V : Type 0} where
         record {
           fair = (let a = old.fair in let b = r.longer in let c = r.begins in omega arith);
           stands = λ τ low. old.stands τ (let c = r.begins in omega arith) ∙ ap (λ (v : V). Some v) (sym r.value);
-          quiet = AllWeaker _ _ (λ t h past. h (let b = r.longer in omega arith)) us old.quiet;
+          quiet = All-weaker _ _ (λ t h past. h (let b = r.longer in omega arith)) us old.quiet;
           sees = old.sees;
           above = tt;
           winner = λ w is. absurd (let z : ◌≡◌ {A = ℕ} 0 1 = cc in omega arith);

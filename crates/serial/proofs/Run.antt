@@ -8,8 +8,8 @@
 use Rattle.std.proofs.Common.{◌≡◌, ℕ, zero, suc, ◌<◌, ◌≤◌, max, Bool, true, false, cond, ◌&&◌, ◌||◌, eqb, ltb, leb, List, [], ◌∷◌, ◌++◌, set, Some, None, Option, sym, refl, ap, ◌∙◌, subst, arith}
 use Rattle.std.specs.List.{slice_get, AllByRecursion as All}
 use Rattle.std.specs.List.Sorted.{IsPermutation}
-use Rattle.std.proofs.ByRecursion.{AllWeaker}
-use Rattle.std.proofs.lemmas.List.Sorted.{IsPermutation-refl, IsPermutation-cons, IsPermutation-swap, IsPermutationTrans}
+use Rattle.std.proofs.ByRecursion.{All-weaker}
+use Rattle.std.proofs.lemmas.List.Sorted.{IsPermutation-refl, IsPermutation-cons, IsPermutation-swap, IsPermutation-trans}
 use Rattle.std.proofs.lemmas.Bool.Decides.{nat_tests}
 use Rattle.serial.specs.Transactions.{Op, reads, writes, Transaction, among, arranged, before, insert, keys_of, last_write, noted}
 use Rattle.serial.specs.Serial.{AllBefore, AllGet, Replays, Sorted, run_all, run_ops}
@@ -197,7 +197,7 @@ module _ {V : Type 0} where
   latest_all us = upto_latest (latest us) us (omega arith)
 
   all_below : (n m : ℕ) (us : List (Transaction V)) → n ≤ m → All (λ u. u.ts ≤ n) us → All (λ u. u.ts ≤ m) us
-  all_below n m us step low = AllWeaker (λ (u : Transaction V). u.ts ≤ n) (λ (u : Transaction V). u.ts ≤ m) (λ u h. omega arith) us low
+  all_below n m us step low = All-weaker (λ (u : Transaction V). u.ts ≤ n) (λ (u : Transaction V). u.ts ≤ m) (λ u h. omega arith) us low
 
   -- ---- where the newest transaction goes in
 
@@ -368,7 +368,7 @@ module _ {V : Type 0} where
     where
       by_case : (b : Bool) → IsPermutation (t ∷ us) (insert t us) → IsPermutation (t ∷ (u ∷ us)) (cond b (u ∷ insert t us) (t ∷ (u ∷ us)))
       by_case true ih =
-          IsPermutationTrans (t ∷ (u ∷ us)) (u ∷ (t ∷ us)) (u ∷ insert t us)
+          IsPermutation-trans (t ∷ (u ∷ us)) (u ∷ (t ∷ us)) (u ∷ insert t us)
           (IsPermutation-swap (t ∷ (u ∷ us)) (u ∷ (t ∷ us)) 0 1 (omega arith) (omega arith) refl)
           (IsPermutation-cons u (t ∷ us) (insert t us) ih)
       by_case false ih = IsPermutation-refl (t ∷ (u ∷ us))
@@ -376,6 +376,6 @@ module _ {V : Type 0} where
   pub arranged_shuffled : (us : List (Transaction V)) → IsPermutation us (arranged us)
   arranged_shuffled [] = IsPermutation-refl []
   arranged_shuffled (t ∷ us) =
-      IsPermutationTrans (t ∷ us) (t ∷ arranged us) (insert t (arranged us))
+      IsPermutation-trans (t ∷ us) (t ∷ arranged us) (insert t (arranged us))
       (IsPermutation-cons t us (arranged us) (arranged_shuffled us))
       (insert_shuffled t (arranged us))

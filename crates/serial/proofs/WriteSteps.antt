@@ -175,7 +175,7 @@ module _ {V : Type 0} where
             record {
               fair = ok.fair;
               stands = λ τ from. ok.stands τ from ∙ ap (λ (w : Option (V × ℕ)). Some (standing w row τ)) none;
-              quiet = subst (λ (w : Option (V × ℕ)). Rattle.std.specs.List.All (λ (u : Transaction V). Rattle.serial.proofs.Invariant.bound w row < u.ts → among k (keys_of u.ops) ≡ false) (serial_order es)) none ok.quiet;
+              quiet = subst (λ (w : Option (V × ℕ)). Rattle.std.specs.List.AllByRecursion (λ (u : Transaction V). Rattle.serial.proofs.Invariant.bound w row < u.ts → among k (keys_of u.ops) ≡ false) (serial_order es)) none ok.quiet;
               sees = ok.sees;
               above = tt;
               winner = λ w is. absurd (let z : ◌≡◌ {A = ℕ} 0 1 = cc in omega arith);

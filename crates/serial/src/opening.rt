@@ -1,15 +1,11 @@
-// The opening of the coordinator.
-ghost use Rattle.std.specs.Prelude.{◌≡◌, ◌≤◌, ◌++◌, map, length, OnOk};
-ghost use Rattle.std.specs.List.{slice_get};
-ghost use Rattle.coordinator.specs.Calls.{freed};
-ghost use Rattle.coordinator.specs.Tables.{fault_of};
-ghost use Rattle.home.specs.Meaning.{Sound};
+// The opening of the coordinator, and the law of what follows it.
+ghost use Rattle.std.specs.Prelude.{◌≡◌, length, OnOk};
+ghost use Rattle.coordinator.specs.Calls.{opening};
 ghost use Rattle.serial.specs.Events.{store};
-ghost use Rattle.coordinator.specs.Calls.{held_from, holder_at, opening};
 ghost use Rattle.serial.specs.Serial.{SerialFrom};
 
-use coordinator::{Entry, FREE, Place};
-use home::{Fault, Home, Layer, Refusal};
+use coordinator::{Entry, Place};
+use home::{Fault, Home};
 
 // Makes the tables ready: every place is free and no transaction has decided. Refuses 14, and 18 with the first held
 // key and its holder.

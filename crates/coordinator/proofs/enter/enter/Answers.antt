@@ -11,6 +11,6 @@ pub returns-in-1-to-64 : goal.returns-in-1-to-64
 unfolding entered
 returns-in-1-to-64 c = search (rules, slice_get-get_or)
 
-pub returns-in-default : goal.returns-in-default
+pub returns-in_default : goal.returns-in_default
 unfolding entered
-returns-in-default c = search rules
+returns-in_default c = search rules

@@ -12,4 +12,4 @@ returns-in-Some g c = let h = c.in-Some.ensures.answer in search rules
 
 pub returns : goal.returns
 unfolding opening
-returns g c = let h = c.first-held.ensures.answer in search rules
+returns g c = let h = c.first_held.ensures.answer in search rules

@@ -7,8 +7,8 @@ use Rattle.home.proofs.Laws.{granted_from, refused_from}
 use Rattle.coordinator.specs.Calls.{holding_at}
 use Rattle.coordinator.proofs.writes.hold_entry.Goals as goal
 
-pub overflow-add-lease : goal.overflow-add-lease
-overflow-add-lease g c =
+pub overflow_add-lease : goal.overflow_add-lease
+overflow_add-lease g c =
     let h = hold_room (g.H.Home.meaning c.args.home.now) c.args.key c.args.place _ c.hold.ensures.sound c.in-Ok.ensures.answer in
     record { fits = omega arith }
 

@@ -4,74 +4,74 @@ use Rattle.coordinator.specs.Tables.{tables}
 use Rattle.serial.proofs.Answered.{done, read_home, refused_as, settle_entries}
 use Rattle.serial.proofs.dispatch.make.Goals as goal
 
-pub returns-in-err-begin : goal.returns-in-err-begin
+pub returns-in_err-begin-in-Begin : goal.returns-in_err-begin-in-Begin
 unfolding stepped
-returns-in-err-begin g c = let h = c.in-err-begin.ensures.answer in search (rules, refused_as)
+returns-in_err-begin-in-Begin g c = let h = c.in_err-begin-in-Begin.ensures.answer in search (rules, refused_as)
 
-pub returns-in-ok-begin : goal.returns-in-ok-begin
+pub returns-in_ok-begin-in-Begin : goal.returns-in_ok-begin-in-Begin
 unfolding stepped
-returns-in-ok-begin g c = let h = c.in-ok-begin.ensures.answer in search (rules, done)
+returns-in_ok-begin-in-Begin g c = let h = c.in_ok-begin-in-Begin.ensures.answer in search (rules, done)
 
-pub returns-in-err-read : goal.returns-in-err-read
+pub returns-in_err-read-in-Read : goal.returns-in_err-read-in-Read
 unfolding stepped
-returns-in-err-read g c =
+returns-in_err-read-in-Read g c =
     let same = read_home (tables (g.H.Home.meaning c.args.home.now) c.args.places.now c.args.entries.now) c.in-Read.place c.in-Read.key in
-    let h = c.in-err-read.ensures.answer in search (rules, refused_as)
+    let h = c.in_err-read-in-Read.ensures.answer in search (rules, refused_as)
 
-pub returns-in-ok-read : goal.returns-in-ok-read
+pub returns-in_ok-read-in-Read : goal.returns-in_ok-read-in-Read
 unfolding stepped
-returns-in-ok-read g c =
+returns-in_ok-read-in-Read g c =
     let same = read_home (tables (g.H.Home.meaning c.args.home.now) c.args.places.now c.args.entries.now) c.in-Read.place c.in-Read.key in
-    let h = c.in-ok-read.ensures.answer in search (rules, done)
+    let h = c.in_ok-read-in-Read.ensures.answer in search (rules, done)
 
-pub returns-in-err-write : goal.returns-in-err-write
+pub returns-in_err-write-in-Write : goal.returns-in_err-write-in-Write
 unfolding stepped
-returns-in-err-write g c = let h = c.in-err-write.ensures.answer in search (rules, refused_as)
+returns-in_err-write-in-Write g c = let h = c.in_err-write-in-Write.ensures.answer in search (rules, refused_as)
 
-pub returns-in-ok-write : goal.returns-in-ok-write
+pub returns-in_ok-write-in-Write : goal.returns-in_ok-write-in-Write
 unfolding stepped
-returns-in-ok-write g c = let h = c.in-ok-write.ensures.answer in search (rules, done)
+returns-in_ok-write-in-Write g c = let h = c.in_ok-write-in-Write.ensures.answer in search (rules, done)
 
-pub returns-in-err-freeze : goal.returns-in-err-freeze
+pub returns-in_err-freeze-in-Freeze : goal.returns-in_err-freeze-in-Freeze
 unfolding stepped
-returns-in-err-freeze g c = let h = c.in-err-freeze.ensures.answer in search (rules, refused_as)
+returns-in_err-freeze-in-Freeze g c = let h = c.in_err-freeze-in-Freeze.ensures.answer in search (rules, refused_as)
 
-pub returns-in-ok-freeze : goal.returns-in-ok-freeze
+pub returns-in_ok-freeze-in-Freeze : goal.returns-in_ok-freeze-in-Freeze
 unfolding stepped
-returns-in-ok-freeze g c = let h = c.in-ok-freeze.ensures.answer in search (rules, done)
+returns-in_ok-freeze-in-Freeze g c = let h = c.in_ok-freeze-in-Freeze.ensures.answer in search (rules, done)
 
-pub returns-in-err-renew : goal.returns-in-err-renew
+pub returns-in_err-renew-in-Renew : goal.returns-in_err-renew-in-Renew
 unfolding stepped
-returns-in-err-renew g c = let h = c.in-err-renew.ensures.answer in search (rules, refused_as)
+returns-in_err-renew-in-Renew g c = let h = c.in_err-renew-in-Renew.ensures.answer in search (rules, refused_as)
 
-pub returns-in-ok-renew : goal.returns-in-ok-renew
+pub returns-in_ok-renew-in-Renew : goal.returns-in_ok-renew-in-Renew
 unfolding stepped
-returns-in-ok-renew g c = let h = c.in-ok-renew.ensures.answer in search (rules, done)
+returns-in_ok-renew-in-Renew g c = let h = c.in_ok-renew-in-Renew.ensures.answer in search (rules, done)
 
-pub returns-in-err-ts : goal.returns-in-err-ts
+pub returns-in_err-ts-in-Decide : goal.returns-in_err-ts-in-Decide
 unfolding stepped
-returns-in-err-ts g c = let h = c.in-err-ts.ensures.answer in search (rules, refused_as)
+returns-in_err-ts-in-Decide g c = let h = c.in_err-ts-in-Decide.ensures.answer in search (rules, refused_as)
 
-pub returns-in-ok-ts : goal.returns-in-ok-ts
+pub returns-in_ok-ts-in-Decide : goal.returns-in_ok-ts-in-Decide
 unfolding stepped
-returns-in-ok-ts g c = let h = c.in-ok-ts.ensures.answer in search (rules, done)
+returns-in_ok-ts-in-Decide g c = let h = c.in_ok-ts-in-Decide.ensures.answer in search (rules, done)
 
-pub returns-in-err-left : goal.returns-in-err-left
+pub returns-in_err-left-in-Settle : goal.returns-in_err-left-in-Settle
 unfolding stepped
-returns-in-err-left g c =
+returns-in_err-left-in-Settle g c =
     let same = settle_entries (tables (g.H.Home.meaning c.args.home.now) c.args.places.now c.args.entries.now) c.in-Settle.place in
-    let h = c.in-err-left.ensures.answer in search (rules, refused_as)
+    let h = c.in_err-left-in-Settle.ensures.answer in search (rules, refused_as)
 
-pub returns-in-ok-left : goal.returns-in-ok-left
+pub returns-in_ok-left-in-Settle : goal.returns-in_ok-left-in-Settle
 unfolding stepped
-returns-in-ok-left g c =
+returns-in_ok-left-in-Settle g c =
     let same = settle_entries (tables (g.H.Home.meaning c.args.home.now) c.args.places.now c.args.entries.now) c.in-Settle.place in
-    let h = c.in-ok-left.ensures.answer in search (rules, done)
+    let h = c.in_ok-left-in-Settle.ensures.answer in search (rules, done)
 
-pub returns-in-err-abort : goal.returns-in-err-abort
+pub returns-in_err-abort-in-Abort : goal.returns-in_err-abort-in-Abort
 unfolding stepped
-returns-in-err-abort g c = let h = c.in-err-abort.ensures.answer in search (rules, refused_as)
+returns-in_err-abort-in-Abort g c = let h = c.in_err-abort-in-Abort.ensures.answer in search (rules, refused_as)
 
-pub returns-in-ok-abort : goal.returns-in-ok-abort
+pub returns-in_ok-abort-in-Abort : goal.returns-in_ok-abort-in-Abort
 unfolding stepped
-returns-in-ok-abort g c = let h = c.in-ok-abort.ensures.answer in search (rules, done)
+returns-in_ok-abort-in-Abort g c = let h = c.in_ok-abort-in-Abort.ensures.answer in search (rules, done)
