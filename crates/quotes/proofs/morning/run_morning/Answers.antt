@@ -21,11 +21,11 @@ returns c =
     let row_ok = sym c.in_ok-check.ensures in
     let byte_ok = sym c.in_ok-check-2.ensures in
     let as-split = curve_as_split near far c.args.orders.now _ _ row_ok byte_ok in
-    let left = c.serve-both.new.left in
-    let right = c.serve-both.new.right in
-    let in_left : cond left.passed [] left.rows.now ≡ [] = rows_free _ _ _ _ _ _ (c.serve-both.ensures.memory.0 ∙ c.make-left.ensures.memory) row_ok in
-    let in_right : cond right.passed [] right.bytes.now ≡ [] = bytes_free _ _ _ _ _ _ (c.serve-both.ensures.memory.1 ∙ c.make-right.ensures.memory) byte_ok in
+    let left = c.serve_both.new.left in
+    let right = c.serve_both.new.right in
+    let in_left : cond left.passed [] left.rows.now ≡ [] = rows_free _ _ _ _ _ _ (c.serve_both.ensures.memory.0 ∙ c.make-left.ensures.memory) row_ok in
+    let in_right : cond right.passed [] right.bytes.now ≡ [] = bytes_free _ _ _ _ _ _ (c.serve_both.ensures.memory.1 ∙ c.make-right.ensures.memory) byte_ok in
     record {
       answer = search rules;
-      tables = tables_after near far c.args.orders.now _ _ row_ok byte_ok _ _ left.passed right.passed left.last 4294967295 left.rows.now _ right.bytes.now _ _ c.make-left.ensures.meaning c.make-right.ensures.meaning (search rules) (search rules) (search rules) (search rules) (λ s. (search rules, search rules)) in_left in_right c.serve-both.ensures.served;
+      tables = tables_after near far c.args.orders.now _ _ row_ok byte_ok _ _ left.passed right.passed left.last 4294967295 left.rows.now _ right.bytes.now _ _ c.make-left.ensures.meaning c.make-right.ensures.meaning (search rules) (search rules) (search rules) (search rules) (λ s. (search rules, search rules)) in_left in_right c.serve_both.ensures.served;
     }
