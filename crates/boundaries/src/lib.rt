@@ -1,4 +1,6 @@
 // Examples at every boundary of values, homes and openings. There is nothing here but tests.
+#![tactic(auto)]
+
 #[cfg(test)]
 mod calls;
 #[cfg(test)]

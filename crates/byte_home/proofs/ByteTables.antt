@@ -9,7 +9,6 @@ use Rattle.std.proofs.lemmas.Bool.Decides.{nat_tests}
 use Rattle.home.specs.declared.row.Row.{Row}
 use Rattle.home.specs.declared.row.Change.{Change}
 use Rattle.home.specs.Rows.{amended, row_after}
-use Rattle.home.specs.Memory.{Memory, in_bytes}
 use Rattle.home.specs.Meaning.{Sound, all_fair, checked_place, fair, found, is_sound, well_placed}
 use Rattle.home.proofs.Rows.{amended_fair}
 use Rattle.home.proofs.Calls.{fair_at, fair_set, parts_sound, sound_parts}

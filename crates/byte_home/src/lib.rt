@@ -1,4 +1,6 @@
 // The byte home: it works in the caller's bytes, seventeen to a row, where a key is a row's number.
+#![tactic(auto)]
+
 ghost use Rattle.std.specs.Prelude.{◌≡◌, true};
 ghost use Rattle.home.specs.Meaning.{is_sound};
 ghost use Rattle.byte_home.specs.Bytes.{word_rows};

@@ -1,5 +1,5 @@
 -- A call, stage by stage: what it comes to once its place is entered, and once its entry is found.
-use Rattle.std.proofs.Common.{◌≡◌, ℕ, true, false, cond, length, Some, None, Ok, Err, Option, Result, sym, refl, ap, ◌∙◌, arith}
+use Rattle.std.proofs.Common.{◌≡◌, ℕ, true, false, cond, length, Some, Ok, Err, Option, Result, sym, refl, ap, ◌∙◌, arith}
 use Rattle.home.specs.declared.fault.Fault.{Fault}
 use Rattle.home.specs.Rows.{Outcome, refuses, grants}
 use Rattle.home.specs.Meaning.{after, answer, changed, fault_at, nothing}

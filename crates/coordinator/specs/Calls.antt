@@ -4,8 +4,6 @@
 --   opening, begin_turn, freeze_turn, abort_turn, decide_turn, read_call, write_call, renew_call, settle_call
 --   stepped st call       any of the eight calls
 use Rattle.std.specs.Prelude.{ℕ, ◌+◌, ◌-◌, ◌/◌, min, max, Bool, true, false, cond, not, ◌&&◌, ◌||◌, List, [], ◌∷◌, ◌++◌, map, length, take, drop, Some, None, Ok, Err, Option, Result, ◌==◌, nat_le, nat_lt}
-use Rattle.std.specs.List.{slice_get}
-use Rattle.home.specs.declared.fault.Refusal.{Refusal}
 use Rattle.home.specs.declared.fault.Refusal.TheVariants.{DayFull, MovedOn, NoneLeft, NotClean, SheetFull, ShortTable, Unchecked}
 use Rattle.home.specs.declared.fault.Fault.{Fault}
 use Rattle.home.specs.declared.row.Row.{Row}
@@ -18,7 +16,7 @@ use Rattle.coordinator.specs.declared.tables.Place.{Place}
 use Rattle.coordinator.specs.declared.tables.Entry.{Entry}
 use Rattle.coordinator.specs.declared.call.Call.{Call}
 use Rattle.coordinator.specs.declared.call.Answer.{Answer}
-use Rattle.coordinator.specs.Tables.{State, Tables, at_cursor, base_of, count_of, cursor_of, entered, fault_of, is_short, put_entry, put_place, sheet, sought, used_of}
+use Rattle.coordinator.specs.Tables.{State, Tables, at_cursor, count_of, cursor_of, entered, fault_of, is_short, put_entry, put_place, sheet, sought, used_of}
 
 pub record Did (V A : Type 0) : Type 0 where
   pub answer : Result A Fault

@@ -5,7 +5,7 @@
 --   sheet place n entries  the first n entries of a place's sheet
 --   sought key at es       the first entry of a key, with its number counted from `at`
 --   entered code ..        what every call tests first: 14, 4, then the state
-use Rattle.std.specs.Prelude.{ℕ, ◌+◌, ◌-◌, ◌*◌, min, Bool, true, false, cond, ◌&&◌, ◌||◌, List, [], ◌∷◌, length, Some, None, Ok, Err, Option, Result, ◌==◌, nat_le, nat_lt, slice_set}
+use Rattle.std.specs.Prelude.{ℕ, ◌+◌, ◌-◌, ◌*◌, min, Bool, cond, ◌&&◌, ◌||◌, List, [], ◌∷◌, length, Some, None, Ok, Err, Option, Result, ◌==◌, nat_le, nat_lt, slice_set}
 use Rattle.std.specs.List.{slice_get, between}
 use Rattle.home.specs.declared.fault.Refusal.{Refusal}
 use Rattle.home.specs.declared.fault.Refusal.TheVariants.{NoPlace, PlaceTaken, ShortTable, WrongState}

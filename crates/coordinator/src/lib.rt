@@ -1,4 +1,6 @@
 // Transactions over a home, by place: the opening and the eight calls, over tables that the caller lends.
+#![tactic(auto)]
+
 mod call;
 mod enter;
 mod opening;

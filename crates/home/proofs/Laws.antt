@@ -1,5 +1,5 @@
 -- The laws of a change.
-use Rattle.std.proofs.Common.{◌≡◌, ℕ, zero, suc, ◌<◌, ◌≤◌, Bool, true, false, cond, List, [], ◌∷◌, length, set, is_err, Some, None, Ok, Err, Option, Result, sym, refl, ap, ◌∙◌, arith, length-set}
+use Rattle.std.proofs.Common.{◌≡◌, ℕ, zero, suc, ◌<◌, ◌≤◌, Bool, true, false, cond, List, [], ◌∷◌, length, set, Some, None, Ok, Err, Option, sym, refl, ap, ◌∙◌, arith, length-set}
 use Rattle.std.specs.List.{slice_get}
 use Rattle.std.proofs.lemmas.List.{set-set}
 use Rattle.std.proofs.lemmas.Bool.Decides.{nat_tests}
@@ -8,8 +8,8 @@ use Rattle.home.specs.declared.row.Cause.{Cause}
 use Rattle.home.specs.declared.row.Row.{Row}
 use Rattle.home.specs.declared.row.Change.{Change}
 use Rattle.home.specs.declared.row.Change.TheVariants.{Hold, Renew, Put, Free}
-use Rattle.home.specs.Rows.{Outcome, refuses, grants, amended, row_after}
-use Rattle.home.specs.Meaning.{Meaning, Sound, after, amended_at, answer, changed, fair, fault_at, found, looked, no_place, place_of, raised, rows_after, well_placed}
+use Rattle.home.specs.Rows.{Outcome, refuses, grants, amended}
+use Rattle.home.specs.Meaning.{Meaning, Sound, after, amended_at, answer, changed, fair, fault_at, found, looked, no_place, raised, well_placed}
 use Rattle.home.specs.Laws.{Lawful, keeps_holder}
 use Rattle.home.proofs.Calls.{fair_at, sound_after}
 

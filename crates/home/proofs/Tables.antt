@@ -5,7 +5,7 @@ use Rattle.home.specs.declared.fault.Fault.{Fault}
 use Rattle.home.specs.declared.row.Row.{Row}
 use Rattle.home.specs.declared.row.Change.{Change}
 use Rattle.home.specs.Rows.{amended, row_after}
-use Rattle.home.specs.Meaning.{Meaning, after, changed, checked_place, found, is_sound}
+use Rattle.home.specs.Meaning.{after, changed, checked_place, found, is_sound}
 use Rattle.home.proofs.Calls.{found_at, made, parts_sound, sound_after, sound_parts, stored}
 use Rattle.home.specs.Opening.{table_meaning}
 

@@ -12,11 +12,10 @@ use Rattle.home.specs.declared.fault.Refusal.TheVariants.{NoKey, NoPlace}
 use Rattle.home.specs.declared.fault.Layer.TheVariants.{Home}
 use Rattle.home.specs.declared.fault.Fault.{Fault}
 use Rattle.home.specs.declared.row.Row.{Row}
-use Rattle.home.specs.declared.row.Lease.{Lease}
 use Rattle.home.specs.declared.row.Cause.{Cause}
 use Rattle.home.specs.declared.row.Change.{Change}
 use Rattle.home.specs.declared.row.Change.TheVariants.{Hold, Renew, Put, Free}
-use Rattle.home.specs.Rows.{Outcome, refuses, grants, because, amended}
+use Rattle.home.specs.Rows.{Outcome, refuses, grants, amended}
 
 pub record Meaning (V : Type 0) : Type 0 where
   pub last : ℕ

@@ -4,7 +4,7 @@
 --   answer_of o               what is answered: the lease that then stands, or the cause
 --   hold_row, renew_row, put_row, free_row    the rules, each tested in the order written
 --   amended last change row   the rule of any change
-use Rattle.std.specs.Prelude.{ℕ, Bool, cond, ◌||◌, Ok, Err, Result, ◌==◌, nat_le, nat_lt}
+use Rattle.std.specs.Prelude.{ℕ, cond, ◌||◌, Ok, Err, Result, ◌==◌, nat_le, nat_lt}
 use Rattle.home.specs.declared.fault.Refusal.{Refusal}
 use Rattle.home.specs.declared.fault.Refusal.TheVariants.{Held, TimeSpent, MovedOn, NotYours, TooEarly}
 use Rattle.home.specs.declared.row.Row.{Row}

@@ -1,4 +1,6 @@
 // What a home is: rows with leases, the calls on them, and why a call is refused.
+#![tactic(auto)]
+
 mod changes;
 mod fault;
 mod home;

@@ -1,4 +1,6 @@
 // Values that have a code and a word, so that they can be written down as bytes and in lines of text.
+#![tactic(auto)]
+
 mod kind;
 mod node;
 mod price;

@@ -1,4 +1,6 @@
 // A quote server's morning: reads a curve and the orders for it, serves them, and prints what came of it.
+#![tactic(auto)]
+
 use anyhow::anyhow;
 use byte_home::{BYTE_LAST, ByteHome};
 use home::{Home, Refusal, Row};

@@ -1,15 +1,14 @@
 -- Orders by the calls of a home: a node that is held is there, can be written past its lease, and can be freed.
-use Rattle.std.proofs.Common.{◌≡◌, ℕ, ◌+◌, ◌<◌, ◌≤◌, true, false, length, ℤ, Some, None, Ok, Err, Option, Result, sym, refl, ap, ◌∙◌, arith}
+use Rattle.std.proofs.Common.{◌≡◌, ℕ, ◌+◌, ℤ, Some, None, Ok, Err, Option, sym, refl, ap, ◌∙◌, arith}
 use Rattle.std.specs.List.{slice_get}
 use Rattle.std.proofs.lemmas.Bool.Decides.{nat_tests}
 use Rattle.home.specs.declared.fault.Fault.{Fault}
 use Rattle.home.specs.declared.row.Row.{Row}
 use Rattle.home.specs.declared.row.Cause.{Cause}
 use Rattle.home.specs.declared.row.Lease.{Lease}
-use Rattle.home.specs.declared.row.Change.{Change}
 use Rattle.home.specs.declared.row.Change.TheVariants.{Hold, Renew, Put, Free}
-use Rattle.home.specs.Rows.{Outcome, refuses, grants, amended, lease_of}
-use Rattle.home.specs.Meaning.{Meaning, Sound, after, answer, changed, end_of, fair, fault_at, found, is_place, looked, no_key, nothing, raised, well_placed}
+use Rattle.home.specs.Rows.{refuses, grants, lease_of}
+use Rattle.home.specs.Meaning.{Meaning, Sound, after, answer, changed, end_of, fault_at, found, looked, no_key, nothing, raised}
 use Rattle.home.proofs.Holds.{held_row}
 use Rattle.home.proofs.Laws.{after_twice, changed_at, granted_from, looked_at}
 use Rattle.kinds.specs.Words.{with_rate}

@@ -1,4 +1,6 @@
 // A quote server's morning: new quotes for the nodes of a curve, over any home.
+#![tactic(auto)]
+
 mod input;
 mod morning;
 mod order;

@@ -1,4 +1,6 @@
 // The row home: it works in the caller's table of rows, where a key is an index.
+#![tactic(auto)]
+
 ghost use Rattle.std.specs.Prelude.{◌≡◌, true};
 ghost use Rattle.home.specs.Meaning.{is_sound};
 ghost use Rattle.home.specs.Opening.{table_meaning};

@@ -1,5 +1,5 @@
 -- Steps that alter one row: what is owed for the key, and that all else stays.
-use Rattle.std.proofs.Common.{◌≡◌, ℕ, zero, suc, ◌+◌, ◌-◌, ◌<◌, ◌≤◌, Bool, true, false, cond, ◌&&◌, ◌||◌, eqb, ltb, leb, ◌⊎◌, List, [], ◌∷◌, length, set, Some, None, Option, sym, refl, ap, ◌∙◌, subst, inl, inr, arith}
+use Rattle.std.proofs.Common.{◌≡◌, ℕ, zero, suc, ◌+◌, ◌≤◌, Bool, true, false, cond, eqb, List, [], ◌∷◌, length, set, Some, None, Option, sym, refl, ap, ◌∙◌, subst, arith}
 use Rattle.std.specs.List.{slice_get, AllByRecursion as All}
 use Rattle.std.proofs.lemmas.Bool.Decides.{nat_tests}
 use Rattle.home.specs.declared.row.Row.{Row}
@@ -11,7 +11,7 @@ use Rattle.serial.specs.Transactions.{Live, Transaction, among, frees, granted, 
 use Rattle.serial.specs.Serial.{Sorted, held_now}
 use Rattle.serial.proofs.Run.{nth_set_other, nth_set_same, over}
 use Rattle.serial.proofs.Seats.{length_put_place, place_range}
-use Rattle.serial.proofs.Invariant.{Alike, Inv, KeyOk, Moves, Seat, Seated, Stake, VoidOk, by_place, key_moves, seat_of, stake_alike, void_moves, won_alike}
+use Rattle.serial.proofs.Invariant.{Alike, Inv, KeyOk, Moves, Seat, Seated, VoidOk, by_place, key_moves, seat_of, stake_alike, void_moves, won_alike}
 use Rattle.serial.proofs.Moves.{moved_state, seat_in, seated_moves}
 
 -- One where the row is held.

@@ -14,7 +14,7 @@ use Rattle.coordinator.specs.declared.tables.Entry.{Entry}
 use Rattle.coordinator.specs.Tables.{fault_of, is_short, tables}
 use Rattle.coordinator.specs.Calls.{Decision, freed}
 use Rattle.coordinator.specs.Calls.{held_from, opening, opening_clean}
-use Rattle.serial.specs.Events.{Event, history_of, stepped, Store, store}
+use Rattle.serial.specs.Events.{Event, history_of, Store, store}
 use Rattle.serial.specs.Transactions.{Live, Orderly, Transaction, among, decided_in, first_of, is_some, keys_of, last_write, live, pending_write, or_else, serial_order, unsettled, when, unsettled_write}
 use Rattle.serial.specs.Serial.{SerialHistory, SerialFrom, held_now, is_held_by, opened, run_all, value_of, values_of}
 use Rattle.serial.proofs.Run.{AllSee, all_along, along_skip, arranged_shuffled, latest, nth_run_all, replays, sees_skip, upto_end, upto_latest, written_among}

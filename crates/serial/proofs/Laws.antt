@@ -12,7 +12,7 @@ use Rattle.home.specs.declared.row.Cause.{Cause}
 use Rattle.home.specs.declared.row.Change.{Change}
 use Rattle.home.specs.declared.row.Change.TheVariants.{Free, Put}
 use Rattle.home.specs.Rows.{Outcome, refuses, grants, free_row, put_row}
-use Rattle.home.specs.Meaning.{Meaning, after, amended_at, changed, fault_at, found as row-found, is_place, looked, no_place, raised, well_placed}
+use Rattle.home.specs.Meaning.{Meaning, after, amended_at, changed, fault_at, found as row-found, is_place, looked, no_place, raised}
 use Rattle.coordinator.specs.declared.call.Call.{Call}
 use Rattle.coordinator.specs.declared.tables.Place.{Place}
 use Rattle.coordinator.specs.declared.tables.Entry.{Entry}

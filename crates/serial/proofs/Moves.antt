@@ -1,5 +1,5 @@
 -- Steps that leave every row and the order alone: one seat moves.
-use Rattle.std.proofs.Common.{◌≡◌, ℕ, ◌+◌, ◌-◌, ◌<◌, ◌≤◌, Bool, true, false, cond, ◌&&◌, ◌||◌, eqb, ltb, leb, ◌⊎◌, List, [], ◌∷◌, length, Some, None, Option, sym, refl, ap, ◌∙◌, subst, inl, inr, arith}
+use Rattle.std.proofs.Common.{◌≡◌, ℕ, ◌≤◌, true, false, cond, eqb, ◌⊎◌, List, ◌∷◌, length, Some, None, Option, sym, ap, ◌∙◌, subst, inl, inr, arith}
 use Rattle.std.specs.List.{slice_get, AllByRecursion as All}
 use Rattle.std.proofs.lemmas.Bool.Decides.{nat_tests, eqb_tells}
 use Rattle.home.specs.declared.fault.Fault.{Fault}
@@ -8,10 +8,10 @@ use Rattle.home.specs.Meaning.{Meaning, is_place}
 use Rattle.coordinator.specs.declared.call.Call.{Call}
 use Rattle.coordinator.specs.declared.tables.Place.{Place}
 use Rattle.coordinator.specs.declared.tables.Entry.{Entry}
-use Rattle.coordinator.specs.Tables.{Tables, put_place, sheet, used_of}
-use Rattle.serial.specs.Events.{Event, Store, did_begin, did_read, did_write, did_freeze, did_renew, did_decide, did_settle, did_abort, refused}
-use Rattle.serial.specs.Transactions.{Live, Transaction, among, frees, granted, nothing_done, is_some, keys_of, last_write, live, pending_write, puts, serial_order, unsettled_write}
-use Rattle.serial.specs.Serial.{Sorted, held_now}
+use Rattle.coordinator.specs.Tables.{put_place, sheet, used_of}
+use Rattle.serial.specs.Events.{Event, Store, refused}
+use Rattle.serial.specs.Transactions.{Live, Transaction, among, frees, granted, keys_of, live, puts, serial_order, unsettled_write}
+use Rattle.serial.specs.Serial.{Sorted}
 use Rattle.serial.proofs.Seats.{length_put_place, place_at, place_other, place_same}
 use Rattle.serial.proofs.Invariant.{Alike, Inv, KeyOk, Moves, Seat, Seated, Stake, VoidOk, key_moves, seat_of, stake_alike, void_moves, won_alike}
 

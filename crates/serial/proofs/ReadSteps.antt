@@ -1,8 +1,8 @@
 -- read: of a key in the sheet, and of a new one.
-use Rattle.std.proofs.Common.{◌≡◌, ℕ, zero, suc, ◌+◌, ◌-◌, ◌<◌, ◌≤◌, min, max, Bool, true, false, cond, ◌&&◌, ◌||◌, eqb, ltb, leb, ◌⊎◌, List, [], ◌∷◌, ◌++◌, length, drop, set, Some, None, Ok, Err, Option, Result, sym, refl, ap, ◌∙◌, subst, inl, inr, add-one, arith}
+use Rattle.std.proofs.Common.{◌≡◌, ℕ, ◌+◌, ◌-◌, ◌<◌, ◌≤◌, max, Bool, true, false, cond, eqb, leb, List, [], ◌∷◌, ◌++◌, length, drop, Some, None, Ok, Err, Option, Result, sym, refl, ap, ◌∙◌, subst, arith}
 use lib.Seq.{set-get_or}
 use Rattle.std.specs.List.{slice_get}
-use Rattle.std.proofs.lemmas.Bool.Decides.{nat_tests, eqb_tells}
+use Rattle.std.proofs.lemmas.Bool.Decides.{nat_tests}
 use Rattle.std.proofs.lemmas.List.{length_push}
 use Rattle.home.specs.declared.fault.Fault.{Fault}
 use Rattle.home.specs.declared.fault.Refusal.TheVariants.{SheetFull}
@@ -11,15 +11,15 @@ use Rattle.home.specs.Meaning.{Meaning, is_place, looked, raised}
 use Rattle.coordinator.specs.declared.call.Call.{Call}
 use Rattle.coordinator.specs.declared.tables.Place.{Place}
 use Rattle.coordinator.specs.declared.tables.Entry.{Entry}
-use Rattle.coordinator.specs.Tables.{admits, entered, fault_of, put_entry, sheet, sought, used_of}
-use Rattle.coordinator.specs.Calls.{Did, by_entry, entering, read_call, reading, reading_new, reading_row, refused as away}
+use Rattle.coordinator.specs.Tables.{entered, fault_of, put_entry, sheet, sought, used_of}
+use Rattle.coordinator.specs.Calls.{Did, by_entry, read_call, reading, reading_new, reading_row, refused as away}
 use Rattle.serial.specs.Events.{Event, Store, Step, by_did, did_read, stepped}
-use Rattle.serial.specs.Transactions.{Live, Op, among, doing, nothing_done, is_some, keys_of, last_write, live, noted, pending_write, reads, serial_order, when, unsettled_write, writes}
+use Rattle.serial.specs.Transactions.{Live, Op, among, doing, is_some, keys_of, last_write, live, noted, pending_write, reads, serial_order, when, unsettled_write}
 use Rattle.serial.proofs.Run.{Sees, along, along_unwritten, along_written, among_noted, sees_skip, value_upto, written_among}
-use Rattle.serial.proofs.Seats.{Entered, blank, entered_ok, length_put_entry, place_at, sheet_length, sheet_other, sheet_push}
+use Rattle.serial.proofs.Seats.{blank, entered_ok, length_put_entry, place_at, sheet_other, sheet_push}
 use Rattle.serial.proofs.Keys.{found, found_among, found_pushed, found_unpushed, keyed, keyed_push, sought_found, sought_none}
 use Rattle.serial.proofs.Invariant.{Alike, Busy, Inv, KeyOk, LeaseOk, Seat, Seated, Stake, by_place, engaged, seat_of, stake_alike, undecided, won_alike, write_of}
-use Rattle.serial.proofs.Moves.{OnlyAt, inv_moves, inv_refused, moved, moved_state, other_place, same_place, seat_in}
+use Rattle.serial.proofs.Moves.{inv_moves, inv_refused, moved, moved_state, other_place, same_place, seat_in}
 use Rattle.serial.proofs.Turns.{same_entries}
 use Rattle.serial.proofs.Changes.{won_open}
 

@@ -1,4 +1,6 @@
 // Histories of the coordinator: any of the eight calls, and the serial order of what they decide.
+#![tactic(auto)]
+
 mod cases;
 mod dispatch;
 mod opening;

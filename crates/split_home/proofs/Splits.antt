@@ -1,19 +1,18 @@
 -- A key of a split home is a key of one of the two, and a change there is a change of the split home.
-use Rattle.std.proofs.Common.{◌≡◌, ℕ, zero, suc, ◌+◌, ◌-◌, ◌<◌, ◌≤◌, Bool, true, false, cond, ◌&&◌, eqb, ltb, leb, List, [], ◌∷◌, ◌++◌, length, set, Some, None, Ok, Err, Option, Result, sym, refl, ap, ◌∙◌, arith, length-append, length-set}
+use Rattle.std.proofs.Common.{◌≡◌, ℕ, zero, suc, ◌-◌, ◌<◌, ◌≤◌, Bool, true, false, cond, List, [], ◌∷◌, ◌++◌, length, Some, None, Err, Option, sym, refl, ap, ◌∙◌, arith, length-append, length-set}
 use Rattle.std.specs.List.{slice_get}
 use Rattle.std.proofs.lemmas.List.{set-append_left, set-append_right}
 use Rattle.std.proofs.lemmas.Option.{slice_get_past}
 use Rattle.std.proofs.lemmas.Bool.{and_from, and_parts}
 use Rattle.std.proofs.lemmas.Bool.Decides.{nat_tests}
-use Rattle.home.specs.declared.fault.Fault.{Fault}
 use Rattle.home.specs.declared.row.Row.{Row}
 use Rattle.home.specs.declared.row.Change.{Change}
 use Rattle.home.specs.Rows.{Outcome, refuses, grants}
-use Rattle.home.specs.Meaning.{Meaning, Sound, after, all_fair, amended_at, answer, changed, fair, fault_at, found, looked, no_key, no_place, place_of, raised, rows_after, well_placed}
+use Rattle.home.specs.Meaning.{Meaning, Sound, after, all_fair, amended_at, answer, changed, fair, fault_at, found, looked, no_key, no_place, raised, rows_after, well_placed}
 use Rattle.home.specs.Memory.{idle, parted}
 use Rattle.split_home.specs.declared.Side.{Side}
 use Rattle.split_home.specs.declared.Side.TheVariants.{Left, Right, Neither}
-use Rattle.split_home.specs.Splits.{absent, renamed, side_from, side_of, split_fits, split_meaning, split_parts}
+use Rattle.split_home.specs.Splits.{renamed, side_from, side_of, split_fits, split_meaning, split_parts}
 
 -- a key that lies on a side
 by_fits : (b : Bool) (inner side : Side) → (side ≡ Neither → ⊥) → cond b inner Neither ≡ side → (b ≡ true) × (inner ≡ side)

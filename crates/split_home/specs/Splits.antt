@@ -5,7 +5,7 @@
 --   split_opened l r        what the split home means when it is made
 --   side_of l r key         which home has a key
 --   split_memory ..         the memory of both
-use Rattle.std.specs.Prelude.{ℕ, ◌+◌, ◌-◌, Bool, true, false, cond, ◌&&◌, List, [], ◌++◌, length, Some, None, Ok, Err, Option, Result, ◌==◌, nat_lt}
+use Rattle.std.specs.Prelude.{ℕ, ◌+◌, ◌-◌, Bool, cond, ◌&&◌, [], ◌++◌, length, Some, None, Ok, Err, Option, Result, ◌==◌, nat_lt}
 use Rattle.home.specs.declared.fault.Refusal.TheVariants.{TwoLasts}
 use Rattle.home.specs.declared.fault.Layer.TheVariants.{Home}
 use Rattle.home.specs.declared.fault.Fault.{Fault}

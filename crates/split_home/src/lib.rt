@@ -1,4 +1,6 @@
 // The split home: two homes side by side, as one.
+#![tactic(auto)]
+
 mod calls;
 mod making;
 

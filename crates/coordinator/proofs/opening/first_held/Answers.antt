@@ -1,4 +1,4 @@
-use Rattle.std.proofs.Common.{arith, rules}
+use Rattle.std.proofs.Common.{rules}
 use Rattle.coordinator.proofs.Openings.{held_all, held_more}
 use Rattle.coordinator.proofs.opening.first_held.Goals as goal
 

@@ -1,4 +1,4 @@
-use Rattle.std.proofs.Common.{◌≡◌, ◌≤◌, ◌++◌, map, length, take, drop}
+use Rattle.std.proofs.Common.{◌≡◌, ◌++◌, map, take, drop}
 use Rattle.coordinator.specs.Calls.{freed}
 use Rattle.coordinator.proofs.opening.free_places.Given as goal
 

@@ -1,4 +1,3 @@
-use Rattle.std.proofs.Common.{rules}
 use Rattle.coordinator.proofs.Openings.{holder_found, holder_none}
 use Rattle.coordinator.proofs.opening.holder_of.Goals as goal
 

@@ -1,5 +1,5 @@
-use Rattle.std.proofs.Common.{◌≡◌, sym, ap, ◌∙◌, rules}
-use Rattle.quotes.specs.Days.{Day, day}
+use Rattle.std.proofs.Common.{sym, ap, ◌∙◌}
+use Rattle.quotes.specs.Days.{Day}
 use Rattle.quotes.proofs.Days.{day_all, day_more}
 use Rattle.quotes.proofs.morning.serve_all.Goals as goal
 

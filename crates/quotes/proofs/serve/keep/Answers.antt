@@ -1,9 +1,4 @@
-use Rattle.std.proofs.Common.{sym, arith, rules}
-use Rattle.home.specs.declared.row.Change.TheVariants.{Free, Hold, Put, Renew}
-use Rattle.home.specs.Rows.{lease_of}
-use Rattle.home.specs.Meaning.{after, changed, end_of, nothing}
-use Rattle.home.proofs.Laws.{granted_from, looked_at, refused_from}
-use Rattle.quotes.specs.Orders.{let_go, written}
+use Rattle.std.proofs.Common.{sym, rules}
 use Rattle.quotes.proofs.Orders.{keep_missing, keep_none, keep_there}
 use Rattle.quotes.proofs.serve.keep.Goals as goal
 

@@ -1,4 +1,4 @@
-use Rattle.std.proofs.Common.{sym, ◌∙◌, arith, rules}
+use Rattle.std.proofs.Common.{sym, ◌∙◌, rules}
 use Rattle.home.specs.declared.row.Change.TheVariants.{Hold}
 use Rattle.home.specs.Rows.{lease_of}
 use Rattle.home.specs.Meaning.{changed}

@@ -1,7 +1,5 @@
-use Rattle.std.proofs.Common.{◌≡◌, true, length, set, Some, sym, ap, ◌∙◌, arith, rules}
-use Rattle.std.specs.List.{slice_get}
-use Rattle.home.specs.Rows.{amended}
-use Rattle.home.specs.Meaning.{changed, fair, all_fair}
+use Rattle.std.proofs.Common.{sym, rules}
+use Rattle.home.specs.Meaning.{changed}
 use Rattle.home.proofs.Calls.{key_refused, made}
 use Rattle.home.proofs.Tables.{in_table, table_after, table_sound}
 use Rattle.row_home.specs.Meanings.{row_home_meaning}

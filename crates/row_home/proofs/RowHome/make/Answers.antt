@@ -1,4 +1,4 @@
-use Rattle.std.proofs.Common.{◌≡◌, false, is_err, sym, ap, ◌∙◌, rules}
+use Rattle.std.proofs.Common.{◌≡◌, false, is_err, rules}
 use Rattle.row_home.specs.Opening.{row_check}
 use Rattle.row_home.proofs.Opening.{checked_sound}
 use Rattle.row_home.proofs.RowHome.make.Goals as goal

@@ -1,7 +1,5 @@
 use Rattle.std.proofs.Common.{sym, rules}
 use Rattle.home.specs.declared.row.Change.TheVariants.{Hold}
-use Rattle.home.specs.Rows.{lease_of}
-use Rattle.home.specs.Meaning.{end_of, nothing}
 use Rattle.split_home.proofs.Splits.{left_change, right_change, no_change, renamed_answer}
 use Rattle.split_home.proofs.calls.SplitHomeHome.hold.Goals as goal
 
