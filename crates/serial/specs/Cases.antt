@@ -3,7 +3,7 @@
 --   Naming        a day and a rate of a node, with their word
 --   Case          some scenes, or some words
 --   cases         the eight
---   AllCases     every one of them holds
+--   AllCases      every one of them holds
 use Rattle.std.specs.Prelude.{◌≡◌, ℕ, ◌+◌, ◌*◌, Bool, true, false, List, [], ◌∷◌, ◌++◌, map, reverse, replicate, ℤ, pos, negsuc, Some, None, Option}
 use Rattle.std.specs.Int.{w32}
 use Rattle.std.proofs.Common.{of_z}

@@ -1,8 +1,8 @@
 -- What holds of every call, whatever its rule says in particular.
 --   place_of call          the place that a call is given
---   RefusalLeaves         what a refusal leaves: everything, but that 2 and 5 turn the place to losing
+--   RefusalLeaves          what a refusal leaves: everything, but that 2 and 5 turn the place to losing
 --   Reaches                what a call may alter: its own place, its own sheet, one row; decide the counter
---   OneEntry              renew and settle handle one entry, and answer how many are then left
+--   OneEntry               renew and settle handle one entry, and answer how many are then left
 use Rattle.std.specs.Prelude.{◌≡◌, ℕ, ◌+◌, ◌-◌, ◌<◌, ◌≤◌, Bool, true, false, cond, ◌⊎◌, List, length, Some, None, Option, ◌≢◌}
 use Rattle.std.specs.List.{slice_get}
 use Rattle.home.specs.declared.fault.Fault.{Fault}

@@ -1,12 +1,12 @@
 -- The law of the serial order: run one at a time in commit order, the decided transactions read what they were answered.
 --   run_ops, run_all      the serial run: one value for each key, a write replaces it
---   AllGet, Replays      every read gets in the run the value that it answered
+--   AllGet, Replays       every read gets in the run the value that it answered
 --   Sorted                by commit timestamp, then commit number
 --   values_of home        the home's values, key by key
 --   held_now rows         how many keys are held; is_held_by, by whom
---   SerialHistory        the law of one history of calls
+--   SerialHistory         the law of one history of calls
 --   opened ..             the store that an opening leaves
---   SerialFrom first     the law of every history from a store on
+--   SerialFrom first      the law of every history from a store on
 use Rattle.std.specs.Prelude.{◌≡◌, ℕ, ◌+◌, Bool, true, false, cond, ◌⊎◌, List, [], ◌∷◌, map, length, Some, None, Option, ◌==◌, slice_set}
 use Rattle.std.specs.List.{slice_get}
 use Rattle.std.specs.List.Sorted.{IsPermutation}
