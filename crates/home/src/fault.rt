@@ -1,6 +1,8 @@
 // Why a call is refused.
-ghost use Rattle.std.specs.Prelude.{◌≡◌, codes};
+ghost use Rattle.std.specs.Prelude.{◌≡◌, Some, codes};
 ghost use Rattle.home.specs.Refusals.{number_of, word_of, layer_of};
+
+use std::fmt;
 
 // Every reason for which a call of the store is turned away.
 #[derive(Clone, Copy, PartialEq, Eq, Debug)]
@@ -62,12 +64,21 @@ impl Refusal {
     }
 }
 
+// A refusal is printed as its word.
+impl fmt::Display for Refusal {
+    ghost output = { λ refusal. Some (word_of refusal) };
+
+    fn fmt<W: fmt::Write>(&self, f: &mut fmt::Formatter<W>) -> fmt::Result {
+        f.write_str(self.word())
+    }
+}
+
 // The layer of the store in which a refusal arose.
 #[derive(Clone, Copy, PartialEq, Eq, Debug)]
 pub enum Layer {
-    Home,
-    Coordinator,
-    Above,
+    Home = 1,
+    Coordinator = 2,
+    Above = 3,
 }
 
 impl Layer {
@@ -75,17 +86,14 @@ impl Layer {
     pub fn level(self) -> u8
         ensures { result ≡ layer_of self }
     {
-        match self {
-            Layer::Home => 1,
-            Layer::Coordinator => 2,
-            Layer::Above => 3,
-        }
+        self as u8
     }
 }
 
 // A refusal with all that is known of it. Place and key are those given to the outermost call, or 0 where
-// it has none; for BadRow and NotClean the key is the row's. The detail is the holder for Held and NotClean, the standing wts for MovedOn, the state for
-// PlaceTaken and WrongState, which part of the row is bad for BadRow, and 0 for the others.
+// it has none; for BadRow and NotClean the key is the row's. The detail is the holder for Held and NotClean, the
+// standing wts for MovedOn, the state for PlaceTaken and WrongState, which part of the row is bad for BadRow, and 0
+// for the others.
 #[derive(Clone, Copy, PartialEq, Eq, Debug)]
 pub struct Fault {
     pub refusal: Refusal,

@@ -46,13 +46,11 @@ impl Flaw {
     pub fn at(self, key: u32) -> Fault
         ensures { result ≡ bad_row key self }
     {
-        Fault {
+        Cause {
             refusal: Refusal::BadRow,
-            layer: Layer::Home,
-            place: 0,
-            key,
             detail: self as u64,
         }
+        .at(0, key)
     }
 }
 

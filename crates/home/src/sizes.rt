@@ -2,7 +2,8 @@
 ghost use Rattle.std.specs.Prelude.{◌≡◌, ◌&&◌};
 ghost use Rattle.home.specs.Opening.{is_count, size_checked};
 
-use crate::fault::{Fault, Layer, Refusal};
+use crate::fault::{Fault, Refusal};
+use crate::row::Cause;
 
 // The most keys that a home has.
 pub const MAX_COUNT: usize = 65_535;
@@ -14,15 +15,8 @@ pub const MAX_LAST: u64 = 9_223_372_036_854_775_807;
 pub fn check_size(count: usize, fits: bool) -> Result<(), Fault>
     ensures { result ≡ size_checked (is_count count && fits) }
 {
-    if count >= 1 && count <= MAX_COUNT && fits {
-        Ok(())
-    } else {
-        Err(Fault {
-            refusal: Refusal::BadSize,
-            layer: Layer::Home,
-            place: 0,
-            key: 0,
-            detail: 0,
-        })
+    match count {
+        1..=MAX_COUNT if fits => Ok(()),
+        _ => Err(Cause::plain(Refusal::BadSize).at(0, 0)),
     }
 }

@@ -5,8 +5,7 @@ pub trait Kind: Copy {
     // The number by which formats name the kind.
     const CODE: u8;
 
-    // The code as contracts see it; `kind_code` answers it.
-    ghost number: { ℕ };
+    ghost CODE: { ℕ };
 
     // The word of a value.
     ghost packed: { Self → ℕ };
@@ -19,7 +18,7 @@ pub trait Kind: Copy {
 
     // The code of the kind.
     fn kind_code() -> u8
-        ensures { result ≡ number };
+        ensures { result ≡ CODE };
 
     // The word of this value; unpacking it gives this value again.
     fn pack(self) -> u64

@@ -1,4 +1,6 @@
-ghost use Rattle.std.specs.Prelude.{◌≡◌, is_some};
+ghost use Rattle.std.specs.Prelude.{◌≡◌, ◌/◌, ◌%◌, is_some};
+ghost use Rattle.std.specs.Int.{w32};
+ghost use Rattle.std.proofs.Common.{to_z};
 ghost use Rattle.kinds.specs.Words.{node_word, node_value, node_reading, node_of, is_node_word, day_of, with_rate};
 ghost use Rattle.std.proofs.Common.{rules};
 
@@ -19,13 +21,8 @@ impl Node {
     pub fn new(day: u32, rate: i32) -> Option<Node>
         ensures { result ≡ node_of day rate }
     {
-        match day {
-            1..=65_536 => Some(Node {
-                day_less_one: (day - 1) as u16,
-                rate,
-            }),
-            _ => None,
-        }
+        let day_less_one = u16::try_from(day.checked_sub(1)?).ok()?;
+        Some(Node { day_less_one, rate })
     }
 
     // The day, from 1 to 65,536.
@@ -39,10 +36,7 @@ impl Node {
     pub fn with_rate(self, rate: i32) -> Node
         ensures { result ≡ with_rate self rate }
     {
-        Node {
-            day_less_one: self.day_less_one,
-            rate,
-        }
+        Node { rate, ..self }
     }
 
     // The rate, in hundredths of a basis point.
@@ -56,7 +50,7 @@ impl Node {
 impl Kind for Node {
     const CODE: u8 = 2;
 
-    ghost number = { 2 };
+    ghost CODE = { 2 };
 
     ghost packed = { node_word };
 
@@ -81,18 +75,24 @@ impl Kind for Node {
         ensures value { result ≡ node_value word }
         ensures which { is_some result ≡ is_node_word word }
     {
-        let day = word / 4_294_967_296;
-        let rate = word % 4_294_967_296;
-        Node::new(day as u32, (rate as u32).cast_signed())
+        let (day, rate) = halves(word);
+        Node::new(day, rate)
     }
 
     // A word that is no node's is read as some node: day 0 as 1, and of a later day what sixteen bits hold.
     fn read(word: u64) -> Node {
-        let day = word / 4_294_967_296;
-        let rate = word % 4_294_967_296;
+        let (day, rate) = halves(word);
         Node {
             day_less_one: (day.saturating_sub(1) % 65_536) as u16,
-            rate: (rate as u32).cast_signed(),
+            rate,
         }
     }
+}
+
+// The upper half of a word, which is the day in a node's word, and the lower half as a rate.
+fn halves(word: u64) -> (u32, i32)
+    ensures { result ≡ (word / 4294967296, to_z w32 (word % 4294967296)) }
+{
+    let rate = (word % 4_294_967_296) as u32;
+    ((word / 4_294_967_296) as u32, rate.cast_signed())
 }

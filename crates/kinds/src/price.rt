@@ -12,7 +12,7 @@ pub struct Price {
 impl Kind for Price {
     const CODE: u8 = 1;
 
-    ghost number = { 1 };
+    ghost CODE = { 1 };
 
     ghost packed = { price_word };
 

@@ -5,5 +5,5 @@ use Rattle.home.proofs.changes.amend.Goals as goal
 
 pub returns : goal.returns
 returns g c =
-    let h = lawful nothing (place_of c.args.change) (g.H.Home.meaning c.args.home.now) c.args.key c.args.change c.make_call.ensures.sound in
+    let h = lawful nothing (place_of c.args.change) (g.H.Home.meaning c.args.home.now) c.args.key c.args.change (g.met.H.Home.sound c.args.home.now) in
     search rules
