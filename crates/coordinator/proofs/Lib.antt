@@ -1,4 +1,3 @@
 pub mod Openings
 pub mod Renewals
 pub mod Sheets
-pub mod Stages

@@ -1,10 +1,8 @@
 -- The opening goes through the rows, and then through the places, one by one.
-use Rattle.std.proofs.Common.{◌≡◌, ℕ, zero, suc, ◌+◌, ◌<◌, ◌≤◌, cond, eqb, List, [], ◌∷◌, ◌++◌, map, length, get_or, take, drop, set, Some, None, Ok, Err, Option, sym, refl, ap, ◌∙◌, arith}
+use Rattle.std.proofs.Common.{◌≡◌, ℕ, zero, suc, ◌+◌, ◌<◌, ◌≤◌, cond, eqb, List, [], ◌∷◌, ◌++◌, map, length, get_or, take, drop, set, Some, None, sym, refl, ap, ◌∙◌, arith}
 use Rattle.std.specs.List.{slice_get}
 use Rattle.std.proofs.lemmas.List.{drop_all}
 use Rattle.home.specs.declared.row.Row.{Row}
-use Rattle.home.specs.declared.fault.Fault.{Fault}
-use Rattle.home.specs.Meaning.{Meaning, found, looked, raised}
 use Rattle.coordinator.specs.declared.tables.Place.{Place}
 use Rattle.coordinator.specs.Calls.{freed, held_from, holder_at}
 
@@ -21,24 +19,6 @@ module _ {V : Type 0} where
 
   pub held_all : (rows : List (Row V)) (key : ℕ) → length rows ≤ key → held_from key (drop key rows) ≡ None
   held_all rows key past = ap (held_from key) (drop_all key rows past)
-
-  -- ---- who holds a key
-
-  pub holder_found : (m : Meaning V) (key : ℕ) (row : Row V) → Ok row ≡ looked m key → row.holder ≡ holder_at (slice_get m.rows key)
-  unfolding looked
-  holder_found m key row is = by_row (slice_get m.rows key) is
-    where
-      by_row : (at : Option (Row V)) → Ok row ≡ raised 0 key (found at) → row.holder ≡ holder_at at
-      by_row None is = absurd (let z : ◌≡◌ {A = ℕ} 0 1 = cc in omega arith)
-      by_row (Some r) is = let same : row ≡ r = cc in ap (λ (x : Row V). x.holder) same
-
-  pub holder_none : (m : Meaning V) (key : ℕ) (fault : Fault) → Err fault ≡ looked m key → 0 ≡ holder_at (slice_get m.rows key)
-  unfolding looked
-  holder_none m key fault is = by_row (slice_get m.rows key) is
-    where
-      by_row : (at : Option (Row V)) → Err fault ≡ raised 0 key (found at) → 0 ≡ holder_at at
-      by_row None is = refl
-      by_row (Some r) is = absurd (let z : ◌≡◌ {A = ℕ} 0 1 = cc in omega arith)
 
 -- ---- the places
 

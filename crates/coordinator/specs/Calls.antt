@@ -2,7 +2,6 @@
 --   Did V A               what a call answers and what it leaves of home, places and entries
 --   Turn A, Decision      the same for calls that alter places alone, or places and counter
 --   opening, begin_turn, freeze_turn, abort_turn, decide_turn, read_call, write_call, renew_call, settle_call
---   stepped st call       any of the eight calls
 use Rattle.std.specs.Prelude.{ℕ, ◌+◌, ◌-◌, ◌/◌, min, max, Bool, true, false, cond, not, ◌&&◌, ◌||◌, List, [], ◌∷◌, ◌++◌, map, length, take, drop, Some, None, Ok, Err, Option, Result, ◌==◌, nat_le, nat_lt}
 use Rattle.home.specs.declared.fault.Refusal.TheVariants.{DayFull, MovedOn, NoneLeft, NotClean, SheetFull, ShortTable, Unchecked}
 use Rattle.home.specs.declared.fault.Fault.{Fault}
@@ -14,9 +13,7 @@ use Rattle.home.specs.Rows.{Outcome, refuses, grants}
 use Rattle.home.specs.Meaning.{Meaning, after, changed, fault_at, looked}
 use Rattle.coordinator.specs.declared.tables.Place.{Place}
 use Rattle.coordinator.specs.declared.tables.Entry.{Entry}
-use Rattle.coordinator.specs.declared.call.Call.{Call}
-use Rattle.coordinator.specs.declared.call.Answer.{Answer}
-use Rattle.coordinator.specs.Tables.{State, Tables, at_cursor, count_of, cursor_of, entered, fault_of, is_short, put_entry, put_place, sheet, sought, used_of}
+use Rattle.coordinator.specs.Tables.{Tables, at_cursor, count_of, cursor_of, entered, fault_of, is_short, put_entry, put_place, sheet, sought, used_of}
 
 pub record Did (V A : Type 0) : Type 0 where
   pub answer : Result A Fault
@@ -267,32 +264,3 @@ settling t place p (Some e) =
 
 unfoldable pub settle_call : {V : Type 0} → Tables V → ℕ → Did V (ℕ × Bool)
 settle_call t place = at_place 7 t place 0 (λ p. settling t place p (at_cursor t.entries place p))
-
--- ---- any call
-
-abbrev pub answered : {A B : Type 0} → (A → B) → Result A Fault → Result B Fault
-answered f (Ok a) = Ok (f a)
-answered f (Err fault) = Err fault
-
-pub record Step (V : Type 0) : Type 0 where
-  pub answer : Result (Answer V) Fault
-  pub state : State V
-
-abbrev pub by_turn : {V A : Type 0} → State V → (A → Answer V) → Turn A → Step V
-by_turn st f d = record { answer = answered f d.answer; state = record { tables = with_places st.tables d.places; counter = st.counter } }
-
-abbrev pub by_did : {V A : Type 0} → State V → (A → Answer V) → Did V A → Step V
-by_did st f d = record { answer = answered f d.answer; state = record { tables = d.tables; counter = st.counter } }
-
-abbrev pub by_decision : {V A : Type 0} → State V → (A → Answer V) → Decision A → Step V
-by_decision st f d = record { answer = answered f d.answer; state = record { tables = with_places st.tables d.places; counter = d.counter } }
-
-abbrev pub stepped : {V : Type 0} → State V → Call V → Step V
-stepped st (Call.Begin place) = by_turn st (λ _. Answer.Done) (begin_turn st.tables.places (length st.tables.entries) place)
-stepped st (Call.Read place key) = by_did st (λ v. Answer.Value v) (read_call st.tables place key)
-stepped st (Call.Write place key value) = by_did st (λ ts. Answer.Time ts) (write_call st.tables place key value)
-stepped st (Call.Freeze place) = by_turn st (λ ts. Answer.Time ts) (freeze_turn st.tables.places (length st.tables.entries) place)
-stepped st (Call.Renew place) = by_did st (λ n. Answer.Left n) (renew_call st.tables place)
-stepped st (Call.Decide place) = by_decision st (λ c. Answer.Committed c.0 c.1) (decide_turn st.tables.places (length st.tables.entries) st.counter place)
-stepped st (Call.Settle place) = by_did st (λ s. Answer.Settled s.0 s.1) (settle_call st.tables place)
-stepped st (Call.Abort place) = by_turn st (λ _. Answer.Done) (abort_turn st.tables.places (length st.tables.entries) place)

@@ -1,6 +1,5 @@
 -- The tables of the coordinator, and how a call finds its place.
 --   Tables V               what the calls work on: the home's meaning, the places and the entries
---   State V                the same with the counter, which only decide looks at
 --   used_of p, cursor_of p, count_of n     stored numbers, limited
 --   sheet place n entries  the first n entries of a place's sheet
 --   sought key at es       the first entry of a key, with its number counted from `at`
@@ -22,10 +21,6 @@ pub record Tables (V : Type 0) : Type 0 where
 
 abbrev pub tables : {V : Type 0} → Meaning V → List Place → List (Entry V) → Tables V
 tables home places entries = record { home = home; places = places; entries = entries }
-
-pub record State (V : Type 0) : Type 0 where
-  pub tables : Tables V
-  pub counter : ℕ
 
 -- ---- stored numbers, limited
 
@@ -89,6 +84,11 @@ entered code places entries place key =
     (cond (is_place place)
     (by_state code place key (slice_get places (place - 1)))
     (Err (fault_of NoPlace place key 0)))
+
+-- The answer with f of what was accepted.
+abbrev pub answered : {A B : Type 0} → (A → B) → Result A Fault → Result B Fault
+answered f (Ok a) = Ok (f a)
+answered f (Err fault) = Err fault
 
 abbrev pub put_place : List Place → ℕ → Place → List Place
 put_place places place p = slice_set places (place - 1) p

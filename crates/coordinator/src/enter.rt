@@ -1,7 +1,7 @@
 // What every call tests first, and how it stores its place again.
-ghost use Rattle.std.specs.Prelude.{◌≡◌, ◌≤◌, length, OnOk};
+ghost use Rattle.std.specs.Prelude.{◌≡◌, ◌+◌, ◌<◌, ◌≤◌, length, IfOk, OnOk};
 ghost use Rattle.coordinator.specs.Calls.{lost_if};
-ghost use Rattle.coordinator.specs.Tables.{admitted, entered, fault_of};
+ghost use Rattle.coordinator.specs.Tables.{admitted, answered, entered, fault_of};
 
 use crate::tables::Place;
 use home::{Fault, Layer, Refusal};
@@ -47,22 +47,36 @@ pub(crate) fn fault(refusal: Refusal, place: u32, key: u32, detail: u64) -> Faul
     }
 }
 
+// A place that may make its call: its index in the table, and what stands there.
+#[derive(Clone, Copy)]
+pub(crate) struct Seat {
+    pub(crate) at: usize,
+    pub(crate) place: Place,
+    ghost within: { at < 64 },
+}
+
 // The place of a call, which may be made in its state. Refuses 14, 4, and 8 or 9.
+#[tactic(auto, unfolding(crate::specs::Tables::entered))]
 pub(crate) fn enter(
     code: u8,
     places: &[Place],
     entries: usize,
     place: u32,
     key: u32,
-) -> Result<Place, Fault>
-    ensures answer { result ≡ entered code places.now entries place key }
-    ensures within { OnOk result ((1 ≤ place) × (place ≤ 64) × (64 ≤ length places.now) × (1024 ≤ entries)) }
+) -> Result<Seat, Fault>
+    ensures answer { answered (λ seat. seat.place) result ≡ entered code places.now entries place key }
+    ensures index { IfOk result (λ seat. seat.at + 1 ≡ place) }
+    ensures within { OnOk result ((64 ≤ length places.now) × (1024 ≤ entries)) }
 {
     if places.len() < 64 || entries < 1024 {
         return Err(fault(Refusal::ShortTable, place, key, 0));
     }
     match place {
-        1..=64 => admit(code, places[place as usize - 1], place, key),
+        1..=64 => {
+            let at = place as usize - 1;
+            let place = admit(code, places[at], place, key)?;
+            Ok(Seat { at, place })
+        }
         _ => Err(fault(Refusal::NoPlace, place, key, 0)),
     }
 }
@@ -87,13 +101,17 @@ fn admit(code: u8, p: Place, place: u32, key: u32) -> Result<Place, Fault>
     }
 }
 
-// A refusal after the state was tested: 2 and 5 lose the transaction, others alter nothing.
-pub(crate) fn turn_away(places: &mut [Place], place: u32, p: Place, fault: Fault)
-    requires { (1 ≤ place) × (place ≤ length places.old) }
-    ensures { places.new ≡ lost_if fault places.old place p }
-{
-    match fault.refusal.number() {
-        2 | 5 => places[place as usize - 1] = p.moved_to(LOSING),
-        _ => {}
+impl Seat {
+    // The fault of a call that is refused after its state was tested: 2 and 5 lose the transaction, others alter nothing.
+    pub(crate) fn turn_away(self, places: &mut [Place], fault: Fault) -> Fault
+        requires { 64 ≤ length places.old }
+        ensures answer { result ≡ fault }
+        ensures places { places.new ≡ lost_if fault places.old (self.at + 1) self.place }
+    {
+        match fault.refusal {
+            Refusal::Held | Refusal::MovedOn => places[self.at] = self.place.moved_to(LOSING),
+            _ => {}
+        }
+        fault
     }
 }

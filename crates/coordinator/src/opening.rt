@@ -1,8 +1,7 @@
 // The opening of the coordinator.
 ghost use Rattle.std.specs.Prelude.{◌≡◌, ◌≤◌, ◌++◌, map, length, take, drop, OnOk};
-ghost use Rattle.std.specs.List.{slice_get};
 ghost use Rattle.home.specs.Meaning.{Sound};
-ghost use Rattle.coordinator.specs.Calls.{freed, held_from, holder_at, opening};
+ghost use Rattle.coordinator.specs.Calls.{freed, held_from, opening};
 
 use crate::enter::{FREE, fault};
 use crate::tables::{Entry, Place};
@@ -10,6 +9,7 @@ use home::{Fault, Home, Refusal};
 
 // Makes the tables ready: every place is free and no transaction has decided. Refuses 14, and 18 with the first held
 // key and its holder.
+#[tactic(auto, unfolding(crate::specs::Calls::opening))]
 pub fn open_tables<H: Home>(
     home: &H,
     places: &mut [Place],
@@ -34,11 +34,10 @@ pub fn open_tables<H: Home>(
 
 // The first key that somebody holds, with its holder.
 fn first_held<H: Home>(home: &H) -> Option<(u32, u32)>
-    ensures answer { result ≡ held_from 0 (H.Home.meaning home.now).rows }
-    ensures sound { Sound (H.Home.meaning home.now) }
+    ensures { result ≡ held_from 0 (H.Home.meaning home.now).rows }
 {
     for key in 0..home.count() {
-        let holder = holder_of(home, key);
+        let holder = home.fetch(key).map_or(0, |row| row.holder);
         if holder != 0 {
             return Some((key, holder));
         }
@@ -46,22 +45,13 @@ fn first_held<H: Home>(home: &H) -> Option<(u32, u32)>
     None
 }
 
-// Who holds a key; 0 for nobody.
-fn holder_of<H: Home>(home: &H, key: u32) -> u32
-    ensures { result ≡ holder_at (slice_get (H.Home.meaning home.now).rows key) }
-{
-    match home.look(key) {
-        Ok(row) => row.holder,
-        Err(_) => 0,
-    }
-}
-
 // Frees the first 64 places.
 fn free_places(places: &mut [Place])
     requires { 64 ≤ length places.old }
     ensures { places.new ≡ map freed (take 64 places.old) ++ drop 64 places.old }
 {
-    for i in 0..64usize {
-        places[i].state = FREE;
+    // By index: after a loop over `&mut places[..64]` a proof knows the length and no element.
+    for at in 0..64usize {
+        places[at].state = FREE;
     }
 }

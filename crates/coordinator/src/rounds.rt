@@ -1,7 +1,6 @@
 // How a place goes on to its next entry, or into another state.
-ghost use Rattle.std.specs.Prelude.{◌≡◌, ◌<◌};
+ghost use Rattle.std.specs.Prelude.{◌≡◌};
 ghost use Rattle.coordinator.specs.Calls.{left_after, moved_to, onward};
-ghost use Rattle.coordinator.specs.Tables.{cursor_of, used_of};
 
 use crate::tables::Place;
 
@@ -12,30 +11,25 @@ impl Place {
     {
         Place {
             state,
-            ts: self.ts,
-            used: self.used,
             cursor: 0,
+            ..self
         }
     }
 
     // The place with one entry more handled.
     pub(crate) fn onward(self) -> Place
-        requires { cursor_of self < used_of self }
         ensures { result ≡ onward self }
     {
         Place {
-            state: self.state,
-            ts: self.ts,
-            used: self.used,
             cursor: self.cursor() + 1,
+            ..self
         }
     }
 
     // How many entries are then left.
     pub(crate) fn left_after(self) -> u8
-        requires { cursor_of self < used_of self }
         ensures { result ≡ left_after self }
     {
-        self.used() - (self.cursor() + 1)
+        self.used().saturating_sub(self.cursor() + 1)
     }
 }

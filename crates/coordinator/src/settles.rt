@@ -5,12 +5,12 @@ ghost use Rattle.coordinator.specs.Calls.{ending, settle_call};
 ghost use Rattle.coordinator.specs.Tables.{tables};
 
 use crate::enter::{FREE, SETTLE, WINNING, enter};
-use crate::sheet::entry_at_cursor;
 use crate::tables::{Entry, Place};
 use home::{Fault, Home};
 
 // Settles the entry at the cursor, and answers how many are left and whether the place is free: it is once none was left
 // to settle. Refuses 14, 4, 9, 1, 6, 3, 7.
+#[tactic(auto, unfolding(crate::specs::Calls::settle_call))]
 pub fn settle<H: Home>(
     home: &mut H,
     places: &mut [Place],
@@ -22,25 +22,17 @@ pub fn settle<H: Home>(
     ensures memory { H.Home.memory home.new ≡ H.Home.memory home.old }
     ensures places { places.new ≡ (settle_call (tables (H.Home.meaning home.old) places.old entries.now) place).tables.places }
 {
-    let p = enter(SETTLE, places, entries.len(), place, 0)?;
-    match entry_at_cursor(entries, place, p) {
-        None => {
-            places[place as usize - 1] = Place {
-                state: FREE,
-                ts: p.ts,
-                used: p.used,
-                cursor: p.cursor,
-            };
-            Ok((0, true))
-        }
-        Some(entry) => {
-            if entry.written {
-                settle_entry(home, place, p, entry)?;
-            }
-            places[place as usize - 1] = p.onward();
-            Ok((p.left_after(), false))
-        }
+    let seat = enter(SETTLE, places, entries.len(), place, 0)?;
+    let p = seat.place;
+    let Some(entry) = seat.at_cursor(entries) else {
+        places[seat.at] = Place { state: FREE, ..p };
+        return Ok((0, true));
+    };
+    if entry.written {
+        settle_entry(home, place, p, entry)?;
     }
+    places[seat.at] = p.onward();
+    Ok((p.left_after(), false))
 }
 
 // Puts what a winner has written, and frees what a loser holds.

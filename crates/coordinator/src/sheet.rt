@@ -1,65 +1,54 @@
 // The sheet of a place: sixteen entries in the middle of the table.
-ghost use Rattle.std.specs.Prelude.{◌≡◌, ◌<◌, ◌≤◌, false, length, IfSome, OnSome};
-ghost use Rattle.coordinator.specs.Tables.{at_cursor, cursor_of, put_entry, sheet, sought, used_of};
+ghost use Rattle.std.specs.Prelude.{◌≡◌, ◌+◌, ◌<◌, ◌≤◌, ◌==◌, length, position, IfSome, OnSome};
+ghost use Rattle.coordinator.specs.Tables.{at_cursor, base_of, cursor_of, sheet, sought, used_of};
 
-use crate::tables::{Entry, Place};
+use crate::enter::Seat;
+use crate::tables::Entry;
+
+impl Seat {
+    // The entries of the place that are in use.
+    pub(crate) fn sheet<V: Copy>(self, entries: &[Entry<V>]) -> &[Entry<V>]
+        requires { 1024 ≤ length entries.now }
+        ensures entries { result.now ≡ sheet (self.at + 1) (used_of self.place) entries.now }
+        ensures length { length result.now ≡ used_of self.place }
+    {
+        let start = 16 * self.at;
+        &entries[start..start + self.place.used() as usize]
+    }
+
+    // The entry at the cursor of the place, if one is left.
+    pub(crate) fn at_cursor<V: Copy>(self, entries: &[Entry<V>]) -> Option<Entry<V>>
+        requires { 1024 ≤ length entries.now }
+        ensures answer { result ≡ at_cursor entries.now (self.at + 1) self.place }
+        ensures within { OnSome result (cursor_of self.place < used_of self.place) }
+    {
+        self.sheet(entries)
+            .get(usize::from(self.place.cursor()))
+            .copied()
+    }
+
+    // Where an entry of the place's sheet stands in the table.
+    pub(crate) fn slot(self, number: usize) -> usize
+        requires { number < 16 }
+        ensures slot { result ≡ base_of (self.at + 1) + number }
+        ensures within { result < 1024 }
+    {
+        16 * self.at + number
+    }
+}
 
 // The first entry of a key, with its number in the sheet.
-pub(crate) fn find<V: Copy>(
-    entries: &[Entry<V>],
-    place: u32,
-    used: u8,
-    key: u32,
-) -> Option<(u8, Entry<V>)>
-    requires place { (1 ≤ place) × (place ≤ 64) }
-    requires table { (used ≤ 16) × (1024 ≤ length entries.now) }
-    ensures answer { result ≡ sought key 0 (sheet place used entries.now) }
-    ensures within { IfSome result (λ found. found.0 < used) }
+pub(crate) fn find<V: Copy>(sheet: &[Entry<V>], key: u32) -> Option<(usize, Entry<V>)>
+    ensures answer { result ≡ sought key 0 sheet.now }
+    ensures within { IfSome result (λ found. found.0 < length sheet.now) }
 {
-    let start = 16 * (place as usize - 1);
-    search(&entries[start..start + used as usize], key)
+    let number = first_of(sheet, key)?;
+    Some((number, sheet[number]))
 }
 
-// The first entry of a key in a part of at most sixteen.
-fn search<V: Copy>(part: &[Entry<V>], key: u32) -> Option<(u8, Entry<V>)>
-    requires { length part.now ≤ 16 }
-    ensures answer { result ≡ sought key 0 part.now }
-    ensures within { IfSome result (λ found. found.0 < length part.now) }
+// The number of the first entry of a key.
+fn first_of<V: Copy>(sheet: &[Entry<V>], key: u32) -> Option<usize>
+    ensures { result ≡ position (λ entry. entry.key == key) sheet.now }
 {
-    for (at, entry) in part.iter().enumerate() {
-        if entry.key == key {
-            return Some((at as u8, *entry));
-        }
-    }
-    None
-}
-
-// The entry at the cursor of a place, if one is left.
-pub(crate) fn entry_at_cursor<V: Copy>(
-    entries: &[Entry<V>],
-    place: u32,
-    p: Place,
-) -> Option<Entry<V>>
-    requires place { (1 ≤ place) × (place ≤ 64) }
-    requires table { 1024 ≤ length entries.now }
-    ensures answer { result ≡ at_cursor entries.now place p }
-    ensures within { OnSome result (cursor_of p < used_of p) }
-{
-    let start = 16 * (place as usize - 1);
-    let sheet = &entries[start..start + p.used() as usize];
-    let at = p.cursor() as usize;
-    if at < sheet.len() {
-        Some(sheet[at])
-    } else {
-        None
-    }
-}
-
-// Stores an entry of a place.
-pub(crate) fn set_entry<V: Copy>(entries: &mut [Entry<V>], place: u32, at: u8, entry: Entry<V>)
-    requires place { (1 ≤ place) × (place ≤ 64) }
-    requires table { (at < 16) × (1024 ≤ length entries.old) }
-    ensures { entries.new ≡ put_entry entries.old place at entry }
-{
-    entries[16 * (place as usize - 1) + at as usize] = entry;
+    sheet.iter().position(|entry| entry.key == key)
 }

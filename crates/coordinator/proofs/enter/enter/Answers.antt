@@ -3,14 +3,10 @@ use Rattle.std.proofs.lemmas.Option.{slice_get-get_or}
 use Rattle.coordinator.specs.Tables.{entered}
 use Rattle.coordinator.proofs.enter.enter.Goals as goal
 
-pub returns-then-places-lt64 : goal.returns-then-places-lt64
+pub returns-in_err-place-in-1-to-64-clause-answer : goal.returns-in_err-place-in-1-to-64-clause-answer
 unfolding entered
-returns-then-places-lt64 c = search rules
+returns-in_err-place-in-1-to-64-clause-answer c = search (rules, slice_get-get_or)
 
-pub returns-in-1-to-64 : goal.returns-in-1-to-64
+pub returns-in_ok-place-in-1-to-64-clause-answer : goal.returns-in_ok-place-in-1-to-64-clause-answer
 unfolding entered
-returns-in-1-to-64 c = search (rules, slice_get-get_or)
-
-pub returns-in_default : goal.returns-in_default
-unfolding entered
-returns-in_default c = search rules
+returns-in_ok-place-in-1-to-64-clause-answer c = search (rules, slice_get-get_or)

@@ -5,11 +5,13 @@ use Rattle.coordinator.proofs.opening.first_held.Goals as goal
 pub returns-then-holder-ne0 : goal.returns-then-holder-ne0
 returns-then-holder-ne0 g c =
     let h = held_more (g.H.Home.meaning c.args.home.now).rows c.loop-key.key (search rules) in
+    let k = c.fetch.ensures in
     search rules
 
 pub loop-key-preserved : goal.loop-key-preserved
 loop-key-preserved g c =
     let h = held_more (g.H.Home.meaning c.args.home.now).rows c.loop-key.key (search rules) in
+    let k = c.fetch.ensures in
     search rules
 
 pub returns : goal.returns

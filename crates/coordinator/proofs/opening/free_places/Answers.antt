@@ -7,8 +7,8 @@ use Rattle.coordinator.proofs.opening.free_places.Goals as goal
 abbrev blank : Place
 blank = record { state = 0; ts = 0; used = 0; cursor = 0 }
 
-pub loop-i-preserved : goal.loop-i-preserved
-loop-i-preserved c =
-    let i = c.loop-i.i in
-    let within : i < length c.args.places.now = omega arith in
-    ap (λ (ps : List Place). set ps i (freed (get_or ps i blank))) c.loop-i.invariant ∙ freed_more c.args.places.now i blank within
+pub loop-at-preserved : goal.loop-at-preserved
+loop-at-preserved c =
+    let at = c.loop-at.at in
+    let within : at < length c.args.places.now = omega arith in
+    ap (λ (ps : List Place). set ps at (freed (get_or ps at blank))) c.loop-at.invariant ∙ freed_more c.args.places.now at blank within
