@@ -1,5 +1,5 @@
--- What a call answers, once its rule has answered.
-use Rattle.std.proofs.Common.{◌≡◌, ℕ, Bool, true, false, cond, eqb, length, Some, None, Ok, Err, Option, Result, refl, ap}
+-- What a call is not given to alter, its rule does not alter.
+use Rattle.std.proofs.Common.{◌≡◌, ℕ, Bool, true, false, cond, eqb, length, Some, None, Ok, Err, Option, Result, refl}
 use Rattle.home.specs.declared.fault.Fault.{Fault}
 use Rattle.home.specs.declared.fault.Refusal.TheVariants.{SheetFull}
 use Rattle.home.specs.declared.row.Row.{Row}
@@ -9,17 +9,6 @@ use Rattle.coordinator.specs.declared.tables.Place.{Place}
 use Rattle.coordinator.specs.declared.tables.Entry.{Entry}
 use Rattle.coordinator.specs.Tables.{Tables, at_cursor, entered, fault_of, sheet, sought, used_of}
 use Rattle.coordinator.specs.Calls.{by_entry, ending, left_after, moving, onward, read_call, reading, reading_new, reading_row, refused as away, settle_call, settling, settling_row}
-use Rattle.coordinator.specs.declared.call.Call.{Call}
-use Rattle.serial.specs.Events.{Event, answer_of, happens}
-
-module _ {V A : Type 0} where
-  pub refused_as : (call : Call V) (f : A → Event V) (r : Result A Fault) (fault : Fault) → Err fault ≡ r → Err fault ≡ answer_of (happens call f r)
-  refused_as call f r fault is = ap (λ o. answer_of (happens call f o)) is
-
-  pub done : (call : Call V) (f : A → Event V) (r : Result A Fault) (a : A) → Ok a ≡ r → answer_of (f a) ≡ answer_of (happens call f r)
-  done call f r a is = ap (λ o. answer_of (happens call f o)) is
-
--- ---- what a call is not given to alter, its rule does not alter
 
 module _ {V : Type 0} (t : Tables V) (place : ℕ) where
   pub read_home : (key : ℕ) → (read_call t place key).tables.home ≡ t.home

@@ -29,7 +29,9 @@ pub fn perform<H: Home>(
     make(home, places, entries, counter, call)
 }
 
-// The call by its own rule.
+// The call by its own rule: apart from `perform`, so that the law is shown once and not for each call. Closures make the
+// answers, since a constructor that names the value type in its result alone is not lent to `map` yet.
+#[tactic(auto, unfolding(crate::specs::Events::stepped))]
 fn make<H: Home>(
     home: &mut H,
     places: &mut [Place],
@@ -45,27 +47,19 @@ fn make<H: Home>(
     ensures counter { counter.new ≡ (stepped (store (H.Home.meaning home.old) places.old entries.old counter.old) call).store.counter }
 {
     match call {
-        Call::Begin { place } => {
-            begin(places, entries, place)?;
-            Ok(Answer::Done)
+        Call::Begin { place } => begin(places, entries, place).map(|()| Answer::Done),
+        Call::Read { place, key } => read(home, places, entries, place, key).map(Answer::Value),
+        Call::Write { place, key, value } => {
+            write(home, places, entries, place, key, value).map(|ts| Answer::Time(ts))
         }
-        Call::Read { place, key } => Ok(Answer::Value(read(home, places, entries, place, key)?)),
-        Call::Write { place, key, value } => Ok(Answer::Time(write(
-            home, places, entries, place, key, value,
-        )?)),
-        Call::Freeze { place } => Ok(Answer::Time(freeze(places, entries, place)?)),
-        Call::Renew { place } => Ok(Answer::Left(renew(home, places, entries, place)?)),
-        Call::Decide { place } => {
-            let (ts, number) = decide(places, entries, counter, place)?;
-            Ok(Answer::Committed(ts, number))
-        }
-        Call::Settle { place } => {
-            let (left, freed) = settle(home, places, entries, place)?;
-            Ok(Answer::Settled(left, freed))
-        }
-        Call::Abort { place } => {
-            abort(places, entries, place)?;
-            Ok(Answer::Done)
-        }
+        Call::Freeze { place } => freeze(places, entries, place).map(|ts| Answer::Time(ts)),
+        Call::Renew { place } => renew(home, places, entries, place).map(|left| Answer::Left(left)),
+        Call::Decide { place } => decide(places, entries, counter, place).map(
+            |commit| Answer::Committed(commit.0, commit.1),
+        ),
+        Call::Settle { place } => settle(home, places, entries, place).map(
+            |settled| Answer::Settled(settled.0, settled.1),
+        ),
+        Call::Abort { place } => abort(places, entries, place).map(|()| Answer::Done),
     }
 }
