@@ -231,8 +231,12 @@ renewing_row t place p e (grants row) =
       };
     }
 
+-- What the home is asked: that the entry's lease reach ts, and where it falls short, end at the wish.
+abbrev pub lengthened : {V : Type 0} → Meaning V → Entry V → ℕ → Outcome V
+lengthened home e ts = changed home e.key (Renew e.wts ts (wish_of home.last e.key ts))
+
 unfoldable pub renewing_at : {V : Type 0} → Tables V → ℕ → Place → Entry V → Did V ℕ
-renewing_at t place p e = renewing_row t place p e (changed t.home e.key (Renew e.wts p.ts (wish_of t.home.last e.key p.ts)))
+renewing_at t place p e = renewing_row t place p e (lengthened t.home e p.ts)
 
 abbrev pub renewing : {V : Type 0} → Tables V → ℕ → Place → Option (Entry V) → Did V ℕ
 renewing t place p None = refused t (fault_of NoneLeft place 0 0)

@@ -1,6 +1,7 @@
 // renew: one entry of a frozen transaction, whose lease has to reach the transaction's timestamp.
 ghost use Rattle.std.specs.Prelude.{◌≡◌};
-ghost use Rattle.coordinator.specs.Calls.{renew_call, stretch_of, wish_of};
+ghost use Rattle.home.specs.Meaning.{after, answer, end_of};
+ghost use Rattle.coordinator.specs.Calls.{lengthened, renew_call, stretch_of};
 ghost use Rattle.coordinator.specs.Tables.{tables};
 
 use crate::enter::{RENEW, enter, fault};
@@ -28,7 +29,7 @@ pub fn renew<H: Home>(
         return Err(fault(Refusal::NoneLeft, place, 0, 0));
     };
     if !entry.written && p.ts > entry.rts {
-        match home.renew(entry.key, entry.wts, p.ts, wish(home, entry.key, p.ts)) {
+        match lengthen(home, entry, p.ts) {
             Ok(rts) => {
                 entries[seat.slot(usize::from(p.cursor()))] = Entry { rts, ..entry };
             }
@@ -39,11 +40,14 @@ pub fn renew<H: Home>(
     Ok(p.left_after())
 }
 
-// Where a lease that has to reach `ts` is wished to end.
-fn wish<H: Home>(home: &H, key: u32, ts: u64) -> u64
-    ensures { result ≡ wish_of (H.Home.meaning home.now).last key ts }
+// Asks the home that the entry's lease reach `ts`, and answers where it then ends.
+fn lengthen<H: Home>(home: &mut H, entry: Entry<H::Value>, ts: u64) -> Result<u64, Fault>
+    ensures answer { result ≡ answer end_of 0 entry.key (lengthened (H.Home.meaning home.old) entry ts) }
+    ensures after { H.Home.meaning home.new ≡ after (H.Home.meaning home.old) entry.key (lengthened (H.Home.meaning home.old) entry ts) }
+    ensures memory { H.Home.memory home.new ≡ H.Home.memory home.old }
 {
-    ts.saturating_add(stretch(key)).min(home.last())
+    let wish = ts.saturating_add(stretch(entry.key)).min(home.last());
+    home.renew(entry.key, entry.wts, ts, wish)
 }
 
 // How much further than needed a lease of the key is stretched, by the key's class.
