@@ -1,7 +1,8 @@
 // The calls as values, and what each answers.
 
-// One of the eight calls, with what it is given.
-#[derive(Clone, Copy)]
+// One of the eight calls, with what it is given: a value, since laws speak of lists of calls, and none looks into a
+// closure.
+#[derive(Clone, Copy, PartialEq, Eq, Debug)]
 pub enum Call<V> {
     Begin { place: u32 },
     Read { place: u32, key: u32 },
@@ -14,7 +15,7 @@ pub enum Call<V> {
 }
 
 // What an accepted call answers.
-#[derive(Clone, Copy)]
+#[derive(Clone, Copy, PartialEq, Eq, Debug)]
 pub enum Answer<V> {
     // begin and abort
     Done,
@@ -26,6 +27,6 @@ pub enum Answer<V> {
     Left(u8),
     // decide: the commit timestamp and the commit number
     Committed(u64, u32),
-    // settle: the entries that are left, and whether the place was freed
+    // settle: the entries that are left, and whether the place was freed, as settle answers them
     Settled(u8, bool),
 }

@@ -6,7 +6,8 @@ ghost use Rattle.coordinator.specs.Tables.{admitted, answered, entered, fault_of
 use crate::tables::Place;
 use home::{Fault, Layer, Refusal};
 
-// The calls by their codes.
+// The calls by their codes, and the states of a place. They are numbers and no enums, since which calls a state
+// admits is one match by ranges, and any number may stand for a state in the caller's table.
 pub(crate) const BEGIN: u8 = 1;
 
 pub(crate) const READ: u8 = 2;
@@ -23,7 +24,6 @@ pub(crate) const SETTLE: u8 = 7;
 
 pub(crate) const ABORT: u8 = 8;
 
-// The states of a place.
 pub(crate) const FREE: u8 = 0;
 
 pub(crate) const OPEN: u8 = 1;
@@ -102,7 +102,8 @@ fn admit(code: u8, p: Place, place: u32, key: u32) -> Result<Place, Fault>
 }
 
 impl Seat {
-    // The fault of a call that is refused after its state was tested: 2 and 5 lose the transaction, others alter nothing.
+    // The fault of a call that is refused after its state was tested: 2 and 5 lose the transaction, others alter
+    // nothing.
     pub(crate) fn turn_away(self, places: &mut [Place], fault: Fault) -> Fault
         requires { 64 ≤ length places.old }
         ensures answer { result ≡ fault }

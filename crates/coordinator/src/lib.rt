@@ -1,4 +1,6 @@
-// Transactions over a home, by place: the opening and the eight calls, over tables that the caller lends.
+// Transactions over a home, by place: the opening and the eight calls, over tables that the caller lends. They are
+// functions and not methods of a struct of the tables: each is given just what it may look at or alter, so that its
+// contract needs no clause for the rest.
 #![tactic(auto)]
 
 mod call;

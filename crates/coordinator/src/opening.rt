@@ -36,6 +36,7 @@ pub fn open_tables<H: Home>(
 fn first_held<H: Home>(home: &H) -> Option<(u32, u32)>
     ensures { result ≡ held_from 0 (H.Home.meaning home.now).rows }
 {
+    // By key, since a home has no slice of rows to go through.
     for key in 0..home.count() {
         let holder = home.fetch(key).map_or(0, |row| row.holder);
         if holder != 0 {

@@ -9,8 +9,8 @@ use crate::sheet::find;
 use crate::tables::{Entry, Place};
 use home::{Fault, Home, Refusal};
 
-// Writes a value, and answers the transaction's timestamp. The first write of a key holds its row. Refuses 14, 4, 9, 10,
-// 1, 2, 3, 5; a 2 or 5 loses the transaction.
+// Writes a value, and answers the transaction's timestamp. The first write of a key holds its row. Refuses 14, 4, 9,
+// 10, 1, 2, 3, 5; a 2 or 5 loses the transaction.
 #[tactic(auto, unfolding(crate::specs::Calls::write_call, crate::specs::Calls::comparing_at, crate::specs::Calls::holding_at))]
 pub fn write<H: Home>(
     home: &mut H,

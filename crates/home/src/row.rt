@@ -7,7 +7,7 @@ ghost use Rattle.home.specs.Rows.{amended, answer_of, free_row, hold_row, lease_
 use crate::fault::{Fault, Layer, Refusal};
 
 // A value with its lease, the timestamps from wts (when it was written) to rts (the last at which it is
-// known to stand), and the place that holds the row to write it, or 0.
+// known to stand), and the place that holds the row to write it, or 0: a number, as it stands in the caller's table.
 #[derive(Clone, Copy, PartialEq, Eq, Debug)]
 pub struct Row<V> {
     pub value: V,
@@ -54,8 +54,8 @@ impl Flaw {
     }
 }
 
-// The four calls of a home that can alter a row.
-#[derive(Clone, Copy)]
+// The four calls of a home that can alter a row, as values: laws speak of any change, and none looks into a closure.
+#[derive(Clone, Copy, PartialEq, Eq, Debug)]
 pub enum Change<V> {
     // The place wants to write the row.
     Hold { place: u32 },

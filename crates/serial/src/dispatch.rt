@@ -8,7 +8,8 @@ use coordinator::{
 };
 use home::{Fault, Home};
 
-// Makes the call, and answers what it answers. Refuses as that call does.
+// Makes the call, and answers what it answers. Refuses as that call does. The tables are lent one by one, as for each
+// call: a struct of them would add a clause to the contract for the name of each reference.
 //
 // Whatever the call, the clause `law` says in plain words what a refusal leaves and what a call may alter.
 pub fn perform<H: Home>(
@@ -29,8 +30,8 @@ pub fn perform<H: Home>(
     make(home, places, entries, counter, call)
 }
 
-// The call by its own rule: apart from `perform`, so that the law is shown once and not for each call. Closures make the
-// answers, since a constructor that names the value type in its result alone is not lent to `map` yet.
+// The call by its own rule: apart from `perform`, so that the law is shown once and not for each call. Closures make
+// the answers, since a constructor that names the value type in its result alone is not lent to `map` yet.
 #[tactic(auto, unfolding(crate::specs::Events::stepped))]
 fn make<H: Home>(
     home: &mut H,

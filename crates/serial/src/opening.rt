@@ -8,7 +8,7 @@ use coordinator::{Entry, Place};
 use home::{Fault, Home};
 
 // Makes the tables ready: every place is free and no transaction has decided. Refuses 14, and 18 with the first held
-// key and its holder.
+// key and its holder. It is the coordinator's opening once more, since the law is made of the rules of all eight calls.
 //
 // Once it is accepted, the clause `serial` holds of every list of the eight calls that follows: run one at a time in
 // commit order, the decided transactions read what they were answered and leave the home's values.
