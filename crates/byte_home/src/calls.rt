@@ -42,9 +42,10 @@ impl<'a, K: Kind> Home for ByteHome<'a, K> {
     // The trait's clauses, written out: the check cannot yet give them to a method with an argument of this type.
     #[tactic(auto, unfolding(home::specs::Meaning::changed))]
     fn apply(&mut self, key: u32, change: Change<K>) -> Result<Lease, Cause>
-        ensures answer { result ≡ answer_of (changed (byte_home_meaning K.Kind.reading self.old) key change) }
-        ensures after { byte_home_meaning K.Kind.reading self.new ≡ after (byte_home_meaning K.Kind.reading self.old) key (changed (byte_home_meaning K.Kind.reading self.old) key change) }
-        ensures memory { byte_home_memory self.new ≡ byte_home_memory self.old }
+        ensures answer { result ≡ answer_of (changed (⟦<Self as Home>⟧.meaning self.old) key change) }
+        ensures after { let meaning = ⟦<Self as Home>⟧.meaning in
+            meaning self.new ≡ after (meaning self.old) key (changed (meaning self.old) key change) }
+        ensures memory { ⟦<Self as Home>⟧.memory self.new ≡ ⟦<Self as Home>⟧.memory self.old }
     {
         change.check_place()?;
         let mut row = self.fetch(key)?;
@@ -53,7 +54,7 @@ impl<'a, K: Kind> Home for ByteHome<'a, K> {
         Ok(lease)
     }
 
-    ghost sound = { λ h. mapped_sound (valued K.Kind.reading) (λ last row. refl) h.passed 4294967295 (word_rows h.bytes.now) h.sound };
+    ghost sound = { λ h. mapped_sound (valued K.Kind.reading) (λ last row. refl) h.passed _ _ h.sound };
 }
 
 impl<'a, K: Kind> ByteHome<'a, K> {
@@ -62,7 +63,8 @@ impl<'a, K: Kind> ByteHome<'a, K> {
         requires passed { self.old.passed ≡ true }
         requires within { key < length self.old.bytes.now / 17 }
         requires fair { fair 4294967295 row ≡ true }
-        ensures rows { read_rows K.Kind.reading self.new.bytes.now ≡ slice_set (read_rows K.Kind.reading self.old.bytes.now) key row }
+        ensures rows { let read = read_rows K.Kind.reading in
+            read self.new.bytes.now ≡ slice_set (read self.old.bytes.now) key row }
         ensures rest { (self.new.bytes.ghost_name ≡ self.old.bytes.ghost_name) × (self.new.passed ≡ self.old.passed) }
     {
         let at = key as usize * ROW_BYTES;

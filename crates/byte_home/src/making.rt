@@ -25,7 +25,8 @@ impl<'a, K: Kind> ByteHome<'a, K> {
     pub fn make(bytes: &'a mut [u8]) -> ByteHome<'a, K>
         ensures meaning { byte_home_meaning K.Kind.reading result ≡ byte_opened K.Kind.unpacked bytes.old }
         ensures table { (result.bytes.ghost_name ≡ bytes.entry.ghost_name) × (result.bytes.now ≡ bytes.old) }
-        ensures memory { byte_home_memory result ≡ in_bytes bytes.entry.ghost_name (if is_ok (byte_check K.Kind.unpacked bytes.old) then [] else bytes.old) }
+        ensures memory { byte_home_memory result
+            ≡ in_bytes bytes.entry.ghost_name (if is_ok (byte_check K.Kind.unpacked bytes.old) then [] else bytes.old) }
     {
         let passed = ByteHome::<K>::check(bytes).is_ok();
         ByteHome {

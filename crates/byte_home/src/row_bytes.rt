@@ -1,5 +1,6 @@
 // Rows as bytes: seventeen to a row, each number with its most significant byte first.
-ghost use Rattle.std.specs.Prelude.{◌≡◌, ◌/◌, ◌<◌, true, false, length, IfSome, if◌then◌else◌, Some, None, MatchOption, nat_eq};
+ghost use Rattle.std.specs.Prelude.{◌≡◌, ◌/◌, ◌<◌, true, false, length, if◌then◌else◌, nat_eq};
+ghost use Rattle.std.specs.Prelude.{IfSome, Some, None, MatchOption};
 ghost use Rattle.byte_home.specs.Bytes.{has_room, row_at, row_bytes, row_packed, row_unpacked, valued, word_row};
 
 use home::Row;

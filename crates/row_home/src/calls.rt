@@ -38,9 +38,10 @@ impl<'a, V: Copy> Home for RowHome<'a, V> {
     // The trait's clauses, written out: the check cannot yet give them to a method with an argument of this type.
     #[tactic(auto, unfolding(home::specs::Meaning::changed))]
     fn apply(&mut self, key: u32, change: Change<V>) -> Result<Lease, Cause>
-        ensures answer { result ≡ answer_of (changed (row_home_meaning self.old) key change) }
-        ensures after { row_home_meaning self.new ≡ after (row_home_meaning self.old) key (changed (row_home_meaning self.old) key change) }
-        ensures memory { row_home_memory self.new ≡ row_home_memory self.old }
+        ensures answer { result ≡ answer_of (changed (⟦<Self as Home>⟧.meaning self.old) key change) }
+        ensures after { let meaning = ⟦<Self as Home>⟧.meaning in
+            meaning self.new ≡ after (meaning self.old) key (changed (meaning self.old) key change) }
+        ensures memory { ⟦<Self as Home>⟧.memory self.new ≡ ⟦<Self as Home>⟧.memory self.old }
     {
         change.check_place()?;
         let mut row = self.fetch(key)?;
@@ -56,9 +57,11 @@ impl<'a, V: Copy> RowHome<'a, V> {
     // Stores a row where it was found.
     fn store(&mut self, key: u32, row: Row<V>)
         requires within { key < length self.old.rows.now }
-        requires sound { is_sound (table_meaning self.old.passed self.old.last (slice_set self.old.rows.now key row)) ≡ true }
+        requires sound { let rows = slice_set self.old.rows.now key row in
+            is_sound (table_meaning self.old.passed self.old.last rows) ≡ true }
         ensures rows { self.new.rows.now ≡ slice_set self.old.rows.now key row }
-        ensures rest { (self.new.rows.ghost_name ≡ self.old.rows.ghost_name) × ((self.new.last ≡ self.old.last) × (self.new.passed ≡ self.old.passed)) }
+        ensures rest { (self.new.rows.ghost_name ≡ self.old.rows.ghost_name)
+            × ((self.new.last ≡ self.old.last) × (self.new.passed ≡ self.old.passed)) }
     {
         self.rows[key as usize] = row;
     }
