@@ -1,6 +1,7 @@
 -- What a check of bytes that finds nothing has shown: the home is sound, and its rows are those of the kind.
-use Rattle.std.proofs.Common.{◌≡◌, ℕ, ◌+◌, ◌/◌, ◌%◌, ◌<◌, ◌≤◌, Bool, true, false, ◌&&◌, eqb, List, [], ◌∷◌, map, length, drop, is_ok, Some, None, Ok, Err, Option, Result, sym, refl, ap, ◌∙◌, arith}
+use Rattle.std.proofs.Common.{◌≡◌, ℕ, ◌+◌, ◌-◌, ◌*◌, ◌/◌, ◌%◌, ◌<◌, ◌≤◌, Bool, true, false, cond, ◌&&◌, eqb, List, [], ◌∷◌, ◌++◌, map, length, take, drop, is_ok, Some, None, Ok, Err, Option, Result, sym, refl, ap, ◌∙◌, arith}
 use Rattle.std.proofs.lemmas.Bool.{and_from}
+use Rattle.std.proofs.lemmas.List.{drop-drop, drop_at, length-append, length-drop, take_at}
 use Rattle.std.proofs.lemmas.Bool.Decides.{nat_tests}
 use Rattle.home.specs.declared.fault.Fault.{Fault}
 use Rattle.home.specs.declared.row.Flaw.{Flaw}
@@ -9,21 +10,36 @@ use Rattle.home.specs.Meaning.{all_fair, fair, is_sound}
 use Rattle.home.specs.Opening.{first_bad, is_count, row_flaw, unless_bad, after_size, table_meaning}
 use Rattle.home.proofs.Calls.{parts_sound}
 use Rattle.home.proofs.Opening.{first_bad_more, first_bad_all}
-use Rattle.byte_home.specs.Bytes.{byte_check, byte_flaw, byte_made, byte_opened, kind_rows, or_flaw, or_skip, read_rows, row_at, valued, valued_if, word_flaw, word_rows}
-use Rattle.byte_home.proofs.Bytes.{getD_word_rows, length_word_rows}
+use Rattle.byte_home.specs.Bytes.{byte_check, byte_flaw, byte_made, byte_opened, kind_rows, or_flaw, or_skip, read_rows, row_at, valued, valued_if, word_flaw, word_row, word_rows}
+use Rattle.byte_home.proofs.Bytes.{getD_word_rows, length_word_rows, split_from}
 
 -- ---- the loop
 
-module _ (flaw : Row ℕ → Option Flaw) (bs : List ℕ) (key : ℕ) where
-  -- one row more
-  pub bad_row_more : (row : Row ℕ) → key < length bs / 17 → row ≡ row_at bs key → first_bad flaw key (drop key (word_rows bs)) ≡ unless_bad key (flaw row) (first_bad flaw (key + 1) (drop (key + 1) (word_rows bs)))
-  bad_row_more row within is =
-      let l : key < length (word_rows bs) = rw length_word_rows within in
-      first_bad_more flaw (word_rows bs) key row l (is ∙ sym (getD_word_rows bs key row within))
+-- the bytes of a row come off those that are left
+module _ (bs rest : List ℕ) (key : ℕ) (at : rest ≡ drop (key * 17) bs) where
+  module _ (chunk left : List ℕ) (apart : rest ≡ chunk ++ left) (long : length chunk ≡ 17) where
+    -- one row more
+    pub chunk_more : (flaw : Row ℕ → Option Flaw) (row : Row ℕ) → Some row ≡ cond (eqb (length chunk) 17) (Some (word_row chunk)) None → first_bad flaw key (drop key (word_rows bs)) ≡ unless_bad key (flaw row) (first_bad flaw (key + 1) (drop (key + 1) (word_rows bs)))
+    chunk_more flaw row is =
+        let within : key < length bs / 17 = omega (arith, ap length at, ap length apart, length-drop (key * 17) bs, length-append chunk left) in
+        let width : key * 17 + 17 - key * 17 ≡ 17 = omega arith in
+        let here : chunk ≡ take (key * 17 + 17 - key * 17) (drop (key * 17) bs) = sym (ap (λ n. take n (drop (key * 17) bs)) width ∙ ap (take 17) (sym at ∙ apart) ∙ take_at chunk left 17 long) in
+        let own : row ≡ row_at bs key = (split_from chunk row is).1 ∙ ap word_row here in
+        let some : key < length (word_rows bs) = rw length_word_rows within in
+        first_bad_more flaw (word_rows bs) key row some (own ∙ sym (getD_word_rows bs key row within))
+
+    -- and the bytes that are then left
+    pub chunk_left : left ≡ drop ((key + 1) * 17) bs
+    chunk_left =
+        let next : key * 17 + 17 ≡ (key + 1) * 17 = omega arith in
+        sym (drop_at chunk left 17 long) ∙ ap (drop 17) (sym apart ∙ at) ∙ drop-drop 17 (key * 17) bs ∙ ap (λ n. drop n bs) next
 
   -- no row left
-  pub bad_row_all : length bs / 17 ≤ key → first_bad flaw key (drop key (word_rows bs)) ≡ Ok tt
-  bad_row_all past = let l : length (word_rows bs) ≤ key = rw length_word_rows past in first_bad_all flaw (word_rows bs) key l
+  pub chunk_none : (flaw : Row ℕ → Option Flaw) → length rest < 17 → first_bad flaw key (drop key (word_rows bs)) ≡ Ok tt
+  chunk_none flaw short =
+      let past : length bs / 17 ≤ key = omega (arith, ap length at, length-drop (key * 17) bs) in
+      let none : length (word_rows bs) ≤ key = rw length_word_rows past in
+      first_bad_all flaw (word_rows bs) key none
 
 -- ---- the making
 

@@ -1,21 +1,15 @@
 -- Rows as bytes: what is put together is taken apart again, and the other way round.
-use Rattle.std.proofs.Common.{◌≡◌, ℕ, ◌+◌, ◌-◌, ◌*◌, ◌/◌, ◌%◌, ◌<◌, ◌≤◌, Bool, true, false, cond, eqb, ◌≢◌, ◌⊎◌, List, [], ◌∷◌, ◌++◌, map, length, get_or, take, drop, set, Some, None, Option, sym, refl, ap, ◌∙◌, inl, inr, mod-eq_of_lt, div-add-mod', arith, rules}
-use native.Mathlib.Nat.{div-div-eq-div-mul}
+use Rattle.std.proofs.Common.{◌≡◌, ℕ, zero, suc, ◌+◌, ◌-◌, ◌*◌, ◌/◌, ◌<◌, ◌≤◌, Bool, true, false, cond, eqb, ◌≢◌, ◌⊎◌, List, [], ◌∷◌, ◌++◌, map, length, get_or, take, drop, set, Some, None, Option, sym, refl, ap, ◌∙◌, inl, inr, arith, rules}
 use borrow.Rule.Slice.PartMut.{put_mid}
 use Rattle.std.specs.List.{range_with_len}
 use Rattle.std.proofs.lemmas.List.FromFn.{fill_by_all, get_or-map-range_with_len, length-map-range_with_len}
-use Rattle.std.proofs.lemmas.List.{places, same_lists, length-set, get_or-set_same, get_or-set_other}
+use Rattle.std.proofs.lemmas.List.{places, same_lists, drop-drop, get_or-drop, length-drop, length-set, length-take-le, get_or-set_same, get_or-set_other}
+use Rattle.std.proofs.lemmas.Nat.{be_bytes_4, be_bytes_8, from_be_bytes-to_be_bytes_4, from_be_bytes-to_be_bytes_8}
 use Rattle.std.proofs.lemmas.Slice.{between_is, between-put_mid, drop-put_mid, take-put_mid_below}
 use Rattle.std.proofs.lemmas.Bool.{and_from, cases_order, cond-true, eq-eqb, eqb-true, lt-ltb}
 use Rattle.std.proofs.lemmas.Bool.Decides.{nat_tests}
 use Rattle.home.specs.declared.row.Row.{Row}
-use Rattle.byte_home.specs.Bytes.{eight_at, eight_bytes, four_at, four_bytes, has_room, row_at, row_bytes, row_packed, row_unpacked, valued, valued_if, word_row, word_rows}
-
-pub split_is : (bs : List ℕ) (w a b h : ℕ) → length bs ≡ 17 → w ≡ eight_at 0 bs → a ≡ four_at 8 bs → b ≡ four_at 12 bs → h ≡ get_or bs 16 0 → Some (record { value = w; wts = a; rts = b; holder = h }) ≡ cond (eqb (length bs) 17) (Some (word_row bs)) None
-unfolding word_row
-split_is bs w a b h long we ae be he =
-    let same : ◌≡◌ {A = Row ℕ} (record { value = w; wts = a; rts = b; holder = h }) (word_row bs) = cc in
-    ap Some same ∙ sym (cond-true _ _ _ (eq-eqb _ _ long))
+use Rattle.byte_home.specs.Bytes.{eight_at, four_at, has_room, row_at, row_bytes, row_packed, row_unpacked, valued, valued_if, word_row, word_rows}
 
 by_length : (bs : List ℕ) (row : Row ℕ) (b : Bool) → eqb (length bs) 17 ≡ b → Some row ≡ cond b (Some (word_row bs)) None → (length bs ≡ 17) × (row ≡ word_row bs)
 by_length bs row true long is = (eqb-true _ _ long, cc)
@@ -24,86 +18,46 @@ by_length bs row false long is = absurd (let z : ◌≡◌ {A = ℕ} 0 1 = cc in
 pub split_from : (bs : List ℕ) (row : Row ℕ) → Some row ≡ cond (eqb (length bs) 17) (Some (word_row bs)) None → (length bs ≡ 17) × (row ≡ word_row bs)
 split_from bs row is = by_length bs row _ refl is
 
--- ---- four bytes and eight
+-- ---- the parts of seventeen bytes
 
--- the quotient by a power of 256, byte by byte
-above : (n k : ℕ) → n / (256 * k) ≡ n / 256 / k
-above n k = sym (div-div-eq-div-mul n 256 k)
+module _ (bs : List ℕ) (long : length bs ≡ 17) where
+  -- a list of seventeen is its elements
+  listed : bs ≡ map (λ k. get_or bs k 0) (range_with_len 0 17)
+  listed = fill_by_all (λ k. get_or bs k 0) bs 17 0 long (λ k h. refl)
 
-below : (n k : ℕ) → n / (k * 256) ≡ n / k / 256
-below n k = sym (div-div-eq-div-mul n k 256)
+  parted : take 8 bs ++ (take 4 (drop 8 bs) ++ (take 4 (drop 12 bs) ++ (get_or bs 16 0 ∷ []))) ≡ bs
+  parted = ap (λ xs. take 8 xs ++ (take 4 (drop 8 xs) ++ (take 4 (drop 12 xs) ++ (get_or xs 16 0 ∷ [])))) listed ∙ sym listed
 
-four_sum : (n q1 q2 q3 r0 r1 r2 : ℕ) → q1 * 256 + r0 ≡ n → q2 * 256 + r1 ≡ q1 → q3 * 256 + r2 ≡ q2 → q3 * 16777216 + r2 * 65536 + r1 * 256 + r0 ≡ n
-four_sum n q1 q2 q3 r0 r1 r2 h0 h1 h2 = omega arith
+  word_part : eight_at 0 (take 8 bs) ≡ eight_at 0 bs
+  word_part = ap (λ xs. eight_at 0 (take 8 xs)) listed
 
-pub four_again : (n : ℕ) → n < 4294967296 → four_at 0 (four_bytes n) ≡ n
-four_again n small =
-    let top : n / 16777216 % 256 ≡ n / 16777216 = mod-eq_of_lt (omega arith) in
-    let s1 : n / 65536 * 256 + n / 256 % 256 ≡ n / 256 = ap (λ q. q * 256 + n / 256 % 256) (below n 256) ∙ div-add-mod' (n / 256) 256 in
-    let s2 : n / 16777216 * 256 + n / 65536 % 256 ≡ n / 65536 = ap (λ q. q * 256 + n / 65536 % 256) (below n 65536) ∙ div-add-mod' (n / 65536) 256 in
-    let all = four_sum n (n / 256) (n / 65536) (n / 16777216) (n % 256) (n / 256 % 256) (n / 65536 % 256) (div-add-mod' n 256) s1 s2 in
-    rw top all
+  wts_part : four_at 0 (take 4 (drop 8 bs)) ≡ four_at 8 bs
+  wts_part = ap (λ xs. four_at 0 (take 4 (drop 8 xs))) listed
 
-eight_sum : (n q1 q2 q3 q4 q5 q6 q7 r0 r1 r2 r3 r4 r5 r6 : ℕ) → q1 * 256 + r0 ≡ n → q2 * 256 + r1 ≡ q1 → q3 * 256 + r2 ≡ q2 → q4 * 256 + r3 ≡ q3 → q5 * 256 + r4 ≡ q4 → q6 * 256 + r5 ≡ q5 → q7 * 256 + r6 ≡ q6 → q7 * 72057594037927936 + r6 * 281474976710656 + r5 * 1099511627776 + r4 * 4294967296 + r3 * 16777216 + r2 * 65536 + r1 * 256 + r0 ≡ n
-eight_sum n q1 q2 q3 q4 q5 q6 q7 r0 r1 r2 r3 r4 r5 r6 h0 h1 h2 h3 h4 h5 h6 = omega arith
+  rts_part : four_at 0 (take 4 (drop 12 bs)) ≡ four_at 12 bs
+  rts_part = ap (λ xs. four_at 0 (take 4 (drop 12 xs))) listed
 
-pub eight_again : (n : ℕ) → n < 18446744073709551616 → eight_at 0 (eight_bytes n) ≡ n
-eight_again n small =
-    let top : n / 72057594037927936 % 256 ≡ n / 72057594037927936 = mod-eq_of_lt (omega arith) in
-    let s1 : n / 65536 * 256 + n / 256 % 256 ≡ n / 256 = ap (λ q. q * 256 + n / 256 % 256) (below n 256) ∙ div-add-mod' (n / 256) 256 in
-    let s2 : n / 16777216 * 256 + n / 65536 % 256 ≡ n / 65536 = ap (λ q. q * 256 + n / 65536 % 256) (below n 65536) ∙ div-add-mod' (n / 65536) 256 in
-    let s3 : n / 4294967296 * 256 + n / 16777216 % 256 ≡ n / 16777216 = ap (λ q. q * 256 + n / 16777216 % 256) (below n 16777216) ∙ div-add-mod' (n / 16777216) 256 in
-    let s4 : n / 1099511627776 * 256 + n / 4294967296 % 256 ≡ n / 4294967296 = ap (λ q. q * 256 + n / 4294967296 % 256) (below n 4294967296) ∙ div-add-mod' (n / 4294967296) 256 in
-    let s5 : n / 281474976710656 * 256 + n / 1099511627776 % 256 ≡ n / 1099511627776 = ap (λ q. q * 256 + n / 1099511627776 % 256) (below n 1099511627776) ∙ div-add-mod' (n / 1099511627776) 256 in
-    let s6 : n / 72057594037927936 * 256 + n / 281474976710656 % 256 ≡ n / 281474976710656 = ap (λ q. q * 256 + n / 281474976710656 % 256) (below n 281474976710656) ∙ div-add-mod' (n / 281474976710656) 256 in
-    let all = eight_sum n (n / 256) (n / 65536) (n / 16777216) (n / 4294967296) (n / 1099511627776) (n / 281474976710656) (n / 72057594037927936) (n % 256) (n / 256 % 256) (n / 65536 % 256) (n / 16777216 % 256) (n / 4294967296 % 256) (n / 1099511627776 % 256) (n / 281474976710656 % 256) (div-add-mod' n 256) s1 s2 s3 s4 s5 s6 in
-    rw top all
+  -- what is read of them one after the other is their row
+  pub split_is : (word wts rts rest rest_2 rest_3 : List ℕ) → word ≡ take 8 bs → rest ≡ drop 8 bs → wts ≡ take 4 rest → rest_2 ≡ drop 4 rest → rts ≡ take 4 rest_2 → rest_3 ≡ drop 4 rest_2 → Some (record { value = eight_at 0 word; wts = four_at 0 wts; rts = four_at 0 rts; holder = get_or rest_3 0 0 }) ≡ cond (eqb (length bs) 17) (Some (word_row bs)) None
+  unfolding word_row
+  split_is word wts rts rest rest_2 rest_3 w r a s b t =
+      let w_is : eight_at 0 word ≡ eight_at 0 bs = ap (eight_at 0) w ∙ word_part in
+      let a_is : four_at 0 wts ≡ four_at 8 bs = ap (four_at 0) (a ∙ ap (take 4) r) ∙ wts_part in
+      let s_is : rest_2 ≡ drop 12 bs = s ∙ ap (drop 4) r ∙ drop-drop 4 8 bs in
+      let b_is : four_at 0 rts ≡ four_at 12 bs = ap (four_at 0) (b ∙ ap (take 4) s_is) ∙ rts_part in
+      let h_is : get_or rest_3 0 0 ≡ get_or bs 16 0 = ap (λ xs. get_or xs 0 0) (t ∙ ap (drop 4) s_is ∙ drop-drop 4 12 bs) ∙ get_or-drop 16 bs 0 0 in
+      let same : ◌≡◌ {A = Row ℕ} (record { value = eight_at 0 word; wts = four_at 0 wts; rts = four_at 0 rts; holder = get_or rest_3 0 0 }) (word_row bs) = cc in
+      ap Some same ∙ sym (cond-true _ _ _ (eq-eqb _ _ long))
 
--- one byte taken off a number
-last_byte : (n q r : ℕ) → n ≡ q * 256 + r → r < 256 → (n / 256 ≡ q) × (n % 256 ≡ r)
-last_byte n q r is small = (omega arith, omega arith)
+-- a part of bytes is bytes
+bytes_front : (n : ℕ) (bs : List ℕ) → ((i : ℕ) → get_or bs i 0 < 256) → (i : ℕ) → get_or (take n bs) i 0 < 256
+bytes_front zero bs fit i = omega arith
+bytes_front (suc n) [] fit i = omega arith
+bytes_front (suc n) (b ∷ bs) fit zero = fit 0
+bytes_front (suc n) (b ∷ bs) fit (suc i) = bytes_front n bs (λ k. fit (suc k)) i
 
-pub four_back : (b0 b1 b2 b3 : ℕ) → b0 < 256 → b1 < 256 → b2 < 256 → b3 < 256 → four_bytes (b0 * 16777216 + b1 * 65536 + b2 * 256 + b3) ≡ b0 ∷ b1 ∷ b2 ∷ b3 ∷ []
-four_back b0 b1 b2 b3 l0 l1 l2 l3 =
-    let n = b0 * 16777216 + b1 * 65536 + b2 * 256 + b3 in
-    let c0 = last_byte n (b0 * 65536 + b1 * 256 + b2) b3 (omega arith) l3 in
-    let e1 : n / 256 ≡ b0 * 65536 + b1 * 256 + b2 = c0.0 in
-    let c1 = last_byte (n / 256) (b0 * 256 + b1) b2 (e1 ∙ omega arith) l2 in
-    let e2 : n / 65536 ≡ b0 * 256 + b1 = below n 256 ∙ c1.0 in
-    let c2 = last_byte (n / 65536) (b0) b1 (e2 ∙ omega arith) l1 in
-    let e3 : n / 16777216 ≡ b0 = below n 65536 ∙ c2.0 in
-    let t : n / 16777216 % 256 ≡ b0 = ap (λ q. q % 256) e3 ∙ mod-eq_of_lt l0 in
-    let r0 : n % 256 ≡ b3 = c0.1 in
-    let r1 : n / 256 % 256 ≡ b2 = c1.1 in
-    let r2 : n / 65536 % 256 ≡ b1 = c2.1 in
-    cc
-
-pub eight_back : (b0 b1 b2 b3 b4 b5 b6 b7 : ℕ) → b0 < 256 → b1 < 256 → b2 < 256 → b3 < 256 → b4 < 256 → b5 < 256 → b6 < 256 → b7 < 256 → eight_bytes (b0 * 72057594037927936 + b1 * 281474976710656 + b2 * 1099511627776 + b3 * 4294967296 + b4 * 16777216 + b5 * 65536 + b6 * 256 + b7) ≡ b0 ∷ b1 ∷ b2 ∷ b3 ∷ b4 ∷ b5 ∷ b6 ∷ b7 ∷ []
-eight_back b0 b1 b2 b3 b4 b5 b6 b7 l0 l1 l2 l3 l4 l5 l6 l7 =
-    let n = b0 * 72057594037927936 + b1 * 281474976710656 + b2 * 1099511627776 + b3 * 4294967296 + b4 * 16777216 + b5 * 65536 + b6 * 256 + b7 in
-    let c0 = last_byte n (b0 * 281474976710656 + b1 * 1099511627776 + b2 * 4294967296 + b3 * 16777216 + b4 * 65536 + b5 * 256 + b6) b7 (omega arith) l7 in
-    let e1 : n / 256 ≡ b0 * 281474976710656 + b1 * 1099511627776 + b2 * 4294967296 + b3 * 16777216 + b4 * 65536 + b5 * 256 + b6 = c0.0 in
-    let c1 = last_byte (n / 256) (b0 * 1099511627776 + b1 * 4294967296 + b2 * 16777216 + b3 * 65536 + b4 * 256 + b5) b6 (e1 ∙ omega arith) l6 in
-    let e2 : n / 65536 ≡ b0 * 1099511627776 + b1 * 4294967296 + b2 * 16777216 + b3 * 65536 + b4 * 256 + b5 = below n 256 ∙ c1.0 in
-    let c2 = last_byte (n / 65536) (b0 * 4294967296 + b1 * 16777216 + b2 * 65536 + b3 * 256 + b4) b5 (e2 ∙ omega arith) l5 in
-    let e3 : n / 16777216 ≡ b0 * 4294967296 + b1 * 16777216 + b2 * 65536 + b3 * 256 + b4 = below n 65536 ∙ c2.0 in
-    let c3 = last_byte (n / 16777216) (b0 * 16777216 + b1 * 65536 + b2 * 256 + b3) b4 (e3 ∙ omega arith) l4 in
-    let e4 : n / 4294967296 ≡ b0 * 16777216 + b1 * 65536 + b2 * 256 + b3 = below n 16777216 ∙ c3.0 in
-    let c4 = last_byte (n / 4294967296) (b0 * 65536 + b1 * 256 + b2) b3 (e4 ∙ omega arith) l3 in
-    let e5 : n / 1099511627776 ≡ b0 * 65536 + b1 * 256 + b2 = below n 4294967296 ∙ c4.0 in
-    let c5 = last_byte (n / 1099511627776) (b0 * 256 + b1) b2 (e5 ∙ omega arith) l2 in
-    let e6 : n / 281474976710656 ≡ b0 * 256 + b1 = below n 1099511627776 ∙ c5.0 in
-    let c6 = last_byte (n / 281474976710656) (b0) b1 (e6 ∙ omega arith) l1 in
-    let e7 : n / 72057594037927936 ≡ b0 = below n 281474976710656 ∙ c6.0 in
-    let t : n / 72057594037927936 % 256 ≡ b0 = ap (λ q. q % 256) e7 ∙ mod-eq_of_lt l0 in
-    let r0 : n % 256 ≡ b7 = c0.1 in
-    let r1 : n / 256 % 256 ≡ b6 = c1.1 in
-    let r2 : n / 65536 % 256 ≡ b5 = c2.1 in
-    let r3 : n / 16777216 % 256 ≡ b4 = c3.1 in
-    let r4 : n / 4294967296 % 256 ≡ b3 = c4.1 in
-    let r5 : n / 1099511627776 % 256 ≡ b2 = c5.1 in
-    let r6 : n / 281474976710656 % 256 ≡ b1 = c6.1 in
-    cc
+bytes_part : (n at : ℕ) (bs : List ℕ) → ((i : ℕ) → get_or bs i 0 < 256) → (i : ℕ) → get_or (take n (drop at bs)) i 0 < 256
+bytes_part n at bs fit i = bytes_front n (drop at bs) (λ k. rw get_or-drop (fit (at + k))) i
 
 -- ---- one row
 
@@ -115,11 +69,7 @@ unfolding word_row row_bytes
 word_row_bytes row word room =
     let a : row.wts < 4294967296 = grind (arith, nat_tests) in
     let b : row.rts < 4294967296 = grind (arith, nat_tests) in
-    same_row row.holder (eight_again row.value word) (four_again row.wts a) (four_again row.rts b)
-
--- a list of seventeen is its elements
-listed : (bs : List ℕ) → length bs ≡ 17 → bs ≡ map (λ k. get_or bs k 0) (range_with_len 0 17)
-listed bs long = fill_by_all (λ k. get_or bs k 0) bs 17 0 long (λ k h. refl)
+    same_row row.holder (from_be_bytes-to_be_bytes_8 row.value word) (from_be_bytes-to_be_bytes_4 row.wts a) (from_be_bytes-to_be_bytes_4 row.rts b)
 
 same_bytes : {xs ys zs us vs ws : List ℕ} (h : ℕ) → xs ≡ us → ys ≡ vs → zs ≡ ws → xs ++ (ys ++ (zs ++ (h ∷ []))) ≡ us ++ (vs ++ (ws ++ (h ∷ [])))
 same_bytes h p q r = cc
@@ -127,11 +77,10 @@ same_bytes h p q r = cc
 pub row_bytes_word : (bs : List ℕ) → length bs ≡ 17 → ((i : ℕ) → get_or bs i 0 < 256) → row_bytes (word_row bs) ≡ bs
 unfolding word_row row_bytes
 row_bytes_word bs long fit =
-    let b = λ (k : ℕ). get_or bs k 0 in
-    let we = eight_back (b 0) (b 1) (b 2) (b 3) (b 4) (b 5) (b 6) (b 7) (fit 0) (fit 1) (fit 2) (fit 3) (fit 4) (fit 5) (fit 6) (fit 7) in
-    let ae = four_back (b 8) (b 9) (b 10) (b 11) (fit 8) (fit 9) (fit 10) (fit 11) in
-    let be = four_back (b 12) (b 13) (b 14) (b 15) (fit 12) (fit 13) (fit 14) (fit 15) in
-    same_bytes (b 16) we ae be ∙ sym (listed bs long)
+    let word = be_bytes_8 (take 8 bs) (eight_at 0 bs) (length-take-le 8 bs (omega arith)) (bytes_part 8 0 bs fit) (sym (word_part bs long)) in
+    let wts = be_bytes_4 (take 4 (drop 8 bs)) (four_at 8 bs) (length-take-le 4 (drop 8 bs) (omega (arith, length-drop 8 bs))) (bytes_part 4 8 bs fit) (sym (wts_part bs long)) in
+    let rts = be_bytes_4 (take 4 (drop 12 bs)) (four_at 12 bs) (length-take-le 4 (drop 12 bs) (omega (arith, length-drop 12 bs))) (bytes_part 4 12 bs fit) (sym (rts_part bs long)) in
+    same_bytes (get_or bs 16 0) word wts rts ∙ parted bs long
 
 pub length_row_bytes : (row : Row ℕ) → length (row_bytes row) ≡ 17
 unfolding row_bytes

@@ -6,7 +6,7 @@ ghost use Rattle.byte_home.specs.Bytes.{byte_check, byte_flaw, byte_opened, word
 ghost use Rattle.byte_home.specs.Meanings.{byte_home_meaning, byte_home_memory};
 
 use crate::ByteHome;
-use crate::row_bytes::{BYTE_LAST, ROW_BYTES, row_at};
+use crate::row_bytes::{BYTE_LAST, ROW_BYTES, split_row};
 use home::{Fault, Flaw, Row, check_size};
 use kinds::Kind;
 use std::marker::PhantomData;
@@ -25,7 +25,8 @@ impl<'a, K: Kind> ByteHome<'a, K> {
     pub fn make(bytes: &'a mut [u8]) -> ByteHome<'a, K>
         ensures meaning { byte_home_meaning K.Kind.reading result ≡ byte_opened K.Kind.unpacked bytes.old }
         ensures table { (result.bytes.ghost_name ≡ bytes.entry.ghost_name) × (result.bytes.now ≡ bytes.old) }
-        ensures memory { byte_home_memory result ≡ in_bytes bytes.entry.ghost_name (if is_ok (byte_check K.Kind.unpacked bytes.old) then [] else bytes.old) }
+        ensures memory { byte_home_memory result
+            ≡ in_bytes bytes.entry.ghost_name (if is_ok (byte_check K.Kind.unpacked bytes.old) then [] else bytes.old) }
     {
         let passed = ByteHome::<K>::check(bytes).is_ok();
         ByteHome {
@@ -41,8 +42,9 @@ fn check_rows<K: Kind>(bytes: &[u8]) -> Result<(), Fault>
     requires { length bytes.now / 17 ≤ 65535 }
     ensures { result ≡ first_bad (byte_flaw K.Kind.unpacked) 0 (word_rows bytes.now) }
 {
-    for key in 0..bytes.len() / ROW_BYTES {
-        if let Some(flaw) = flaw_of::<K>(row_at(bytes, key)) {
+    for (key, chunk) in bytes.chunks_exact(ROW_BYTES).enumerate() {
+        let row = split_row(chunk).unwrap();
+        if let Some(flaw) = flaw_of::<K>(row) {
             return Err(flaw.at(key as u32));
         }
     }
@@ -53,11 +55,6 @@ fn check_rows<K: Kind>(bytes: &[u8]) -> Result<(), Fault>
 fn flaw_of<K: Kind>(row: Row<u64>) -> Option<Flaw>
     ensures { result ≡ byte_flaw K.Kind.unpacked row }
 {
-    match row.flaw(BYTE_LAST) {
-        Some(flaw) => Some(flaw),
-        None => match K::unpack(row.value) {
-            Some(_) => None,
-            None => Some(Flaw::Word),
-        },
-    }
+    row.flaw(BYTE_LAST)
+        .or_else(|| K::unpack(row.value).is_none().then_some(Flaw::Word))
 }

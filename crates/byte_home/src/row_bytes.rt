@@ -1,5 +1,6 @@
 // Rows as bytes: seventeen to a row, each number with its most significant byte first.
-ghost use Rattle.std.specs.Prelude.{◌≡◌, ◌/◌, ◌<◌, true, false, length, IfSome, if◌then◌else◌, Some, None, MatchOption, nat_eq};
+ghost use Rattle.std.specs.Prelude.{◌≡◌, ◌/◌, ◌<◌, true, false, length, if◌then◌else◌, nat_eq};
+ghost use Rattle.std.specs.Prelude.{IfSome, Some, None, MatchOption};
 ghost use Rattle.byte_home.specs.Bytes.{has_room, row_at, row_bytes, row_packed, row_unpacked, valued, word_row};
 
 use home::Row;
@@ -15,32 +16,16 @@ pub const BYTE_LAST: u64 = 4_294_967_295;
 pub(crate) fn split_row(bytes: &[u8]) -> Option<Row<u64>>
     ensures { result ≡ (if nat_eq (length bytes.now) 17 then Some (word_row bytes.now) else None) }
 {
-    let [
-        w0,
-        w1,
-        w2,
-        w3,
-        w4,
-        w5,
-        w6,
-        w7,
-        wts0,
-        wts1,
-        wts2,
-        wts3,
-        rts0,
-        rts1,
-        rts2,
-        rts3,
-        holder,
-    ] = bytes
-    else {
+    let (word, rest) = bytes.split_first_chunk()?;
+    let (wts, rest) = rest.split_first_chunk()?;
+    let (rts, rest) = rest.split_first_chunk()?;
+    let [holder] = rest else {
         return None;
     };
     Some(Row {
-        value: u64::from_be_bytes([*w0, *w1, *w2, *w3, *w4, *w5, *w6, *w7]),
-        wts: u64::from(u32::from_be_bytes([*wts0, *wts1, *wts2, *wts3])),
-        rts: u64::from(u32::from_be_bytes([*rts0, *rts1, *rts2, *rts3])),
+        value: u64::from_be_bytes(*word),
+        wts: u64::from(u32::from_be_bytes(*wts)),
+        rts: u64::from(u32::from_be_bytes(*rts)),
         holder: u32::from(*holder),
     })
 }
@@ -50,28 +35,12 @@ pub(crate) fn join_row(row: Row<u64>) -> [u8; ROW_BYTES]
     requires { has_room row ≡ true }
     ensures { result ≡ row_bytes row }
 {
-    let [w0, w1, w2, w3, w4, w5, w6, w7] = row.value.to_be_bytes();
-    let [wts0, wts1, wts2, wts3] = (row.wts as u32).to_be_bytes();
-    let [rts0, rts1, rts2, rts3] = (row.rts as u32).to_be_bytes();
-    [
-        w0,
-        w1,
-        w2,
-        w3,
-        w4,
-        w5,
-        w6,
-        w7,
-        wts0,
-        wts1,
-        wts2,
-        wts3,
-        rts0,
-        rts1,
-        rts2,
-        rts3,
-        row.holder as u8,
-    ]
+    let mut bytes = [0; ROW_BYTES];
+    bytes[..8].copy_from_slice(&row.value.to_be_bytes());
+    bytes[8..12].copy_from_slice(&(row.wts as u32).to_be_bytes());
+    bytes[12..16].copy_from_slice(&(row.rts as u32).to_be_bytes());
+    bytes[16] = row.holder as u8;
+    bytes
 }
 
 // The row of a key in a table of bytes.

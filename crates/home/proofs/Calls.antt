@@ -1,10 +1,9 @@
 -- What holds of every call of a home, whatever its rule.
-use Rattle.std.proofs.Common.{◌≡◌, ℕ, zero, suc, ◌<◌, Bool, true, false, cond, ◌&&◌, leb, List, [], ◌∷◌, length, set, Some, None, Ok, Err, Option, sym, refl, ap, ◌∙◌, arith, length-set}
+use Rattle.std.proofs.Common.{◌≡◌, ℕ, zero, suc, ◌<◌, Bool, true, false, cond, ◌&&◌, leb, List, [], ◌∷◌, length, set, Some, None, Ok, Option, sym, refl, ap, ◌∙◌, arith, length-set}
 use Rattle.std.specs.List.{slice_get}
 use Rattle.std.proofs.lemmas.Bool.Decides.{nat_tests}
 use Rattle.std.proofs.lemmas.Bool.{and_parts, and_from, leb-true, le-leb}
 use Rattle.home.specs.declared.row.Row.{Row}
-use Rattle.home.specs.declared.row.Cause.{Cause}
 use Rattle.home.specs.declared.row.Change.{Change}
 use Rattle.home.specs.Rows.{Outcome, refuses, grants, row_after, amended}
 use Rattle.home.specs.Meaning.{Meaning, fair, all_fair, rows_after, amended_at, after, changed, checked_place, found, is_sound, no_place, Sound, well_placed}
@@ -39,10 +38,6 @@ module _ {V : Type 0} where
   stored rows key row (grants new) at = refl
 
   -- ---- a change, test by test
-
-  pub key_refused : (m : Meaning V) (key : ℕ) (change : Change V) (cause : Cause) → checked_place change ≡ Ok tt → found (slice_get m.rows key) ≡ Err cause → changed m key change ≡ refuses cause
-  unfolding changed
-  key_refused m key change cause ok gone = grind (arith, nat_tests)
 
   pub made : (m : Meaning V) (key : ℕ) (change : Change V) (row : Row V) → checked_place change ≡ Ok tt → found (slice_get m.rows key) ≡ Ok row → changed m key change ≡ amended m.last change row
   unfolding changed

@@ -4,3 +4,4 @@ pub mod Opening
 pub mod Laws
 pub mod Holds
 pub mod Tables
+pub mod TwoHomes

@@ -1,11 +1,12 @@
 -- A row found in a table, and the table after the row was stored again.
-use Rattle.std.proofs.Common.{◌≡◌, ℕ, ◌<◌, Bool, true, false, cond, List, [], length, set, is_err, Some, Ok, Err, Result, sym, refl, ap, ◌∙◌, arith}
+use Rattle.std.proofs.Common.{◌≡◌, ℕ, ◌<◌, Bool, true, false, cond, List, [], ◌∷◌, map, length, set, is_err, Some, Ok, Err, Result, sym, refl, ap, ◌∙◌, arith}
 use Rattle.std.specs.List.{slice_get}
+use Rattle.std.proofs.lemmas.List.{length-map}
 use Rattle.home.specs.declared.fault.Fault.{Fault}
 use Rattle.home.specs.declared.row.Row.{Row}
 use Rattle.home.specs.declared.row.Change.{Change}
 use Rattle.home.specs.Rows.{amended, row_after}
-use Rattle.home.specs.Meaning.{after, changed, checked_place, found, is_sound}
+use Rattle.home.specs.Meaning.{Sound, after, all_fair, changed, checked_place, fair, found, is_sound}
 use Rattle.home.proofs.Calls.{found_at, made, parts_sound, sound_after, sound_parts, stored}
 use Rattle.home.specs.Opening.{table_meaning}
 
@@ -35,3 +36,19 @@ module _ {V : Type 0} where
       let m = table_meaning passed last rows in
       let s = parts_sound _ (sound_after m key change (sound_parts m was)) in
       ap is_sound (table_after passed last rows key change row new ok at left) ∙ s
+
+-- The conditions on a home in a table of rows do not depend on the values, so they hold however these are read.
+module _ {V W : Type 0} (f : Row V → Row W) (same : (last : ℕ) (row : Row V) → fair last (f row) ≡ fair last row) where
+  mapped_fair : (last : ℕ) (rows : List (Row V)) → all_fair last (map f rows) ≡ all_fair last rows
+  mapped_fair last [] = refl
+  mapped_fair last (row ∷ rows) = cc (same last row, mapped_fair last rows)
+
+  pub mapped_sound : (passed : Bool) (last : ℕ) (rows : List (Row V)) → is_sound (table_meaning passed last rows) ≡ true → Sound (table_meaning passed last (map f rows))
+  mapped_sound true last rows ok =
+      let s = sound_parts (table_meaning true last rows) ok in
+      record {
+        few = rw length-map s.few;
+        ends = s.ends;
+        rows = mapped_fair last rows ∙ s.rows;
+      }
+  mapped_sound false last rows ok = let s = sound_parts (table_meaning false last rows) ok in record { few = s.few; ends = s.ends; rows = s.rows }

@@ -22,7 +22,8 @@ impl<'a, V: Copy> RowHome<'a, V> {
     pub fn make(rows: &'a mut [Row<V>], last: u64) -> RowHome<'a, V>
         ensures meaning { row_home_meaning result ≡ row_opened last rows.old }
         ensures table { (result.rows.ghost_name ≡ rows.entry.ghost_name) × (result.rows.now ≡ rows.old) }
-        ensures memory { row_home_memory result ≡ in_rows rows.entry.ghost_name (if is_ok (row_check last rows.old) then [] else rows.old) }
+        ensures memory { row_home_memory result
+            ≡ in_rows rows.entry.ghost_name (if is_ok (row_check last rows.old) then [] else rows.old) }
     {
         if RowHome::check(rows, last).is_err() {
             return RowHome {

@@ -3,18 +3,19 @@
 --   split_meaning l r       the left home's rows, then the right one's; no keys where the two do not fit
 --   split_check l r         the check: 16 for the sum of the counts, then 19
 --   split_opened l r        what the split home means when it is made
---   side_of l r key         which home has a key
+--   split_counts l r        the counts of the two, where they fit
+--   side_of l r key         which home has a key, or 1
 --   split_memory ..         the memory of both
 use Rattle.std.specs.Prelude.{ℕ, ◌+◌, ◌-◌, Bool, cond, ◌&&◌, [], ◌++◌, length, Some, None, Ok, Err, Option, Result, ◌==◌, nat_lt}
 use Rattle.home.specs.declared.fault.Refusal.TheVariants.{TwoLasts}
 use Rattle.home.specs.declared.fault.Layer.TheVariants.{Home}
 use Rattle.home.specs.declared.fault.Fault.{Fault}
-use Rattle.home.specs.declared.row.Change.{Change}
-use Rattle.home.specs.Meaning.{Meaning, fault_at, no_key, no_place, place_of, well_placed}
+use Rattle.home.specs.declared.row.Cause.{Cause}
+use Rattle.home.specs.Meaning.{Meaning, no_key}
 use Rattle.home.specs.Memory.{Memory, Parts, idle, in_two, parted}
 use Rattle.home.specs.Opening.{is_count, after_size}
 use Rattle.split_home.specs.declared.Side.{Side}
-use Rattle.split_home.specs.declared.Side.TheVariants.{Left, Right, Neither}
+use Rattle.split_home.specs.declared.Side.TheVariants.{Left, Right}
 
 abbrev pub split_size : {V : Type 0} → Meaning V → Meaning V → ℕ
 split_size l r = length l.rows + length r.rows
@@ -43,23 +44,14 @@ split_opened l r = split_made l r (split_check l r)
 abbrev pub split_counts : {V : Type 0} → Meaning V → Meaning V → Option (ℕ × ℕ)
 split_counts l r = cond (split_fits l r) (Some (length l.rows, length r.rows)) None
 
-abbrev pub side_from : ℕ → ℕ → ℕ → Side
-side_from left right key = cond (nat_lt key left) Left (cond (nat_lt (key - left) right) (Right (key - left)) Neither)
+abbrev pub side_from : ℕ → ℕ → ℕ → Result Side Cause
+side_from left right key = cond (nat_lt key left) (Ok Left) (cond (nat_lt (key - left) right) (Ok (Right (key - left))) (Err no_key))
 
-abbrev pub side_of : {V : Type 0} → Meaning V → Meaning V → ℕ → Side
-side_of l r key = cond (split_fits l r) (side_from (length l.rows) (length r.rows) key) Neither
+abbrev pub side_of : {V : Type 0} → Meaning V → Meaning V → ℕ → Result Side Cause
+side_of l r key = cond (split_fits l r) (side_from (length l.rows) (length r.rows) key) (Err no_key)
 
 abbrev pub split_parts : {V : Type 0} → Meaning V → Meaning V → Parts V
 split_parts l r = cond (split_fits l r) (parted (length l.rows)) (idle l r)
 
 abbrev pub split_memory : {V : Type 0} → ℕ → Memory V → ℕ → Memory V → Meaning V → Meaning V → Memory V
 split_memory left ml right mr l r = in_two left ml right mr (split_parts l r)
-
--- A fault under the key that the caller gave.
-abbrev pub renamed : {A : Type 0} → ℕ → Result A Fault → Result A Fault
-renamed key (Ok a) = Ok a
-renamed key (Err fault) = Err (record { refusal = fault.refusal; layer = fault.layer; place = fault.place; key = key; detail = fault.detail })
-
--- The refusal of a change to a key that is not there.
-abbrev pub absent : {V : Type 0} → ℕ → Change V → Fault
-absent key change = fault_at (place_of change) key (cond (well_placed change) no_key no_place)

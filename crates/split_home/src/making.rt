@@ -3,7 +3,7 @@ ghost use Rattle.std.specs.Prelude.{◌≡◌};
 ghost use Rattle.split_home.specs.Splits.{split_check, split_meaning, split_opened};
 
 use crate::SplitHome;
-use home::{Fault, Home, Layer, Refusal, check_size};
+use home::{Cause, Fault, Home, Refusal, check_size};
 
 impl<'a, 'b, L: Home, R: Home<Value = L::Value>> SplitHome<'a, 'b, L, R> {
     // Tests two homes that are to go together. Refuses 16, 19.
@@ -12,13 +12,7 @@ impl<'a, 'b, L: Home, R: Home<Value = L::Value>> SplitHome<'a, 'b, L, R> {
     {
         check_size(left.count() as usize + right.count() as usize, true)?;
         if left.last() != right.last() {
-            return Err(Fault {
-                refusal: Refusal::TwoLasts,
-                layer: Layer::Home,
-                place: 0,
-                key: 0,
-                detail: 0,
-            });
+            return Err(Cause::plain(Refusal::TwoLasts).at(0, 0));
         }
         Ok(())
     }
@@ -26,10 +20,18 @@ impl<'a, 'b, L: Home, R: Home<Value = L::Value>> SplitHome<'a, 'b, L, R> {
     // Makes one home of the two, with the rows of both, or with no keys where the check fails. Its last
     // timestamp is the left one's. It works in the two homes themselves, and alters neither by being made.
     pub fn make(left: &'a mut L, right: &'b mut R) -> SplitHome<'a, 'b, L, R>
-        ensures meaning { split_meaning (L.Home.meaning result.left.now) (R.Home.meaning result.right.now) ≡ split_opened (L.Home.meaning left.old) (R.Home.meaning right.old) }
+        ensures meaning { split_meaning (L.Home.meaning result.left.now) (R.Home.meaning result.right.now)
+            ≡ split_opened (L.Home.meaning left.old) (R.Home.meaning right.old) }
         ensures left { (result.left.ghost_name ≡ left.entry.ghost_name) × (result.left.now ≡ left.old) }
         ensures right { (result.right.ghost_name ≡ right.entry.ghost_name) × (result.right.now ≡ right.old) }
     {
-        SplitHome { left, right }
+        let counts = SplitHome::check(left, right)
+            .is_ok()
+            .then(|| (left.count(), right.count()));
+        SplitHome {
+            left,
+            right,
+            counts,
+        }
     }
 }
