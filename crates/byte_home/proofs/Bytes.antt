@@ -3,13 +3,19 @@ use Rattle.std.proofs.Common.{◌≡◌, ℕ, zero, suc, ◌+◌, ◌-◌, ◌*�
 use borrow.Rule.Slice.PartMut.{put_mid}
 use Rattle.std.specs.List.{range_with_len}
 use Rattle.std.proofs.lemmas.List.FromFn.{fill_by_all, get_or-map-range_with_len, length-map-range_with_len}
-use Rattle.std.proofs.lemmas.List.{places, same_lists, drop-drop, get_or-drop, length-drop, length-set, length-take-le, get_or-set_same, get_or-set_other}
+use Rattle.std.proofs.lemmas.List.{places, same_lists, get_or-drop, length-drop, length-set, length-take-le, get_or-set_same, get_or-set_other}
 use Rattle.std.proofs.lemmas.Nat.{be_bytes_4, be_bytes_8, from_be_bytes-to_be_bytes_4, from_be_bytes-to_be_bytes_8}
 use Rattle.std.proofs.lemmas.Slice.{between_is, between-put_mid, drop-put_mid, take-put_mid_below}
 use Rattle.std.proofs.lemmas.Bool.{and_from, cases_order, cond-true, eq-eqb, eqb-true, lt-ltb}
 use Rattle.std.proofs.lemmas.Bool.Decides.{nat_tests}
 use Rattle.home.specs.declared.row.Row.{Row}
 use Rattle.byte_home.specs.Bytes.{eight_at, four_at, has_room, row_at, row_bytes, row_packed, row_unpacked, valued, valued_if, word_row, word_rows}
+
+pub split_is : (bs : List ℕ) (w a b h : ℕ) → length bs ≡ 17 → w ≡ eight_at 0 bs → a ≡ four_at 8 bs → b ≡ four_at 12 bs → h ≡ get_or bs 16 0 → Some (record { value = w; wts = a; rts = b; holder = h }) ≡ cond (eqb (length bs) 17) (Some (word_row bs)) None
+unfolding word_row
+split_is bs w a b h long we ae be he =
+    let same : ◌≡◌ {A = Row ℕ} (record { value = w; wts = a; rts = b; holder = h }) (word_row bs) = cc in
+    ap Some same ∙ sym (cond-true _ _ _ (eq-eqb _ _ long))
 
 by_length : (bs : List ℕ) (row : Row ℕ) (b : Bool) → eqb (length bs) 17 ≡ b → Some row ≡ cond b (Some (word_row bs)) None → (length bs ≡ 17) × (row ≡ word_row bs)
 by_length bs row true long is = (eqb-true _ _ long, cc)
@@ -36,18 +42,6 @@ module _ (bs : List ℕ) (long : length bs ≡ 17) where
 
   rts_part : four_at 0 (take 4 (drop 12 bs)) ≡ four_at 12 bs
   rts_part = ap (λ xs. four_at 0 (take 4 (drop 12 xs))) listed
-
-  -- what is read of them one after the other is their row
-  pub split_is : (word wts rts rest rest_2 rest_3 : List ℕ) → word ≡ take 8 bs → rest ≡ drop 8 bs → wts ≡ take 4 rest → rest_2 ≡ drop 4 rest → rts ≡ take 4 rest_2 → rest_3 ≡ drop 4 rest_2 → Some (record { value = eight_at 0 word; wts = four_at 0 wts; rts = four_at 0 rts; holder = get_or rest_3 0 0 }) ≡ cond (eqb (length bs) 17) (Some (word_row bs)) None
-  unfolding word_row
-  split_is word wts rts rest rest_2 rest_3 w r a s b t =
-      let w_is : eight_at 0 word ≡ eight_at 0 bs = ap (eight_at 0) w ∙ word_part in
-      let a_is : four_at 0 wts ≡ four_at 8 bs = ap (four_at 0) (a ∙ ap (take 4) r) ∙ wts_part in
-      let s_is : rest_2 ≡ drop 12 bs = s ∙ ap (drop 4) r ∙ drop-drop 4 8 bs in
-      let b_is : four_at 0 rts ≡ four_at 12 bs = ap (four_at 0) (b ∙ ap (take 4) s_is) ∙ rts_part in
-      let h_is : get_or rest_3 0 0 ≡ get_or bs 16 0 = ap (λ xs. get_or xs 0 0) (t ∙ ap (drop 4) s_is ∙ drop-drop 4 12 bs) ∙ get_or-drop 16 bs 0 0 in
-      let same : ◌≡◌ {A = Row ℕ} (record { value = eight_at 0 word; wts = four_at 0 wts; rts = four_at 0 rts; holder = get_or rest_3 0 0 }) (word_row bs) = cc in
-      ap Some same ∙ sym (cond-true _ _ _ (eq-eqb _ _ long))
 
 -- a part of bytes is bytes
 bytes_front : (n : ℕ) (bs : List ℕ) → ((i : ℕ) → get_or bs i 0 < 256) → (i : ℕ) → get_or (take n bs) i 0 < 256

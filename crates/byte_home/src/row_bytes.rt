@@ -16,16 +16,33 @@ pub const BYTE_LAST: u64 = 4_294_967_295;
 pub(crate) fn split_row(bytes: &[u8]) -> Option<Row<u64>>
     ensures { result ≡ (if nat_eq (length bytes.now) 17 then Some (word_row bytes.now) else None) }
 {
-    let (word, rest) = bytes.split_first_chunk()?;
-    let (wts, rest) = rest.split_first_chunk()?;
-    let (rts, rest) = rest.split_first_chunk()?;
-    let [holder] = rest else {
+    // Not by split_first_chunk: one slice pattern is to take the seventeen bytes apart, a rule of the project.
+    let [
+        w0,
+        w1,
+        w2,
+        w3,
+        w4,
+        w5,
+        w6,
+        w7,
+        wts0,
+        wts1,
+        wts2,
+        wts3,
+        rts0,
+        rts1,
+        rts2,
+        rts3,
+        holder,
+    ] = bytes
+    else {
         return None;
     };
     Some(Row {
-        value: u64::from_be_bytes(*word),
-        wts: u64::from(u32::from_be_bytes(*wts)),
-        rts: u64::from(u32::from_be_bytes(*rts)),
+        value: u64::from_be_bytes([*w0, *w1, *w2, *w3, *w4, *w5, *w6, *w7]),
+        wts: u64::from(u32::from_be_bytes([*wts0, *wts1, *wts2, *wts3])),
+        rts: u64::from(u32::from_be_bytes([*rts0, *rts1, *rts2, *rts3])),
         holder: u32::from(*holder),
     })
 }
