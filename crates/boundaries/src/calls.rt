@@ -1,39 +1,14 @@
+use crate::helpers::{fault, number, row};
 use byte_home::ByteHome;
-use home::{Fault, Home, Row};
+use home::Home;
 use kinds::Price;
 use row_home::RowHome;
 use split_home::SplitHome;
 use std::test::Fail;
 
-// A free row with this lease.
-fn row(wts: u64, rts: u64) -> Row<Price> {
-    Row {
-        value: Price { ticks: 100 },
-        wts,
-        rts,
-        holder: 0,
-    }
-}
-
-// Number, place, key and detail of a refusal, or zeros.
-fn fault<A: Drop>(answer: Result<A, Fault>) -> (u8, u32, u32, u64) {
-    match answer {
-        Ok(_) => (0, 0, 0, 0),
-        Err(fault) => (fault.refusal.number(), fault.place, fault.key, fault.detail),
-    }
-}
-
-// The number of a refusal, or 0.
-fn number<A: Drop>(answer: Result<A, Fault>) -> u8 {
-    match answer {
-        Ok(_) => 0,
-        Err(fault) => fault.refusal.number(),
-    }
-}
-
 #[test]
 fn places(rt: HostRuntime) {
-    let mut rows = [row(0, 0), row(0, 0)];
+    let mut rows = [row(100, 0, 0), row(100, 0, 0)];
     let mut home = RowHome::make(&mut rows, 10);
     assert_eq!(rt; number(home.hold(0, 0)), 4);
     assert_eq!(rt; number(home.hold(0, 65)), 4);
@@ -44,7 +19,7 @@ fn places(rt: HostRuntime) {
 
 #[test]
 fn keys(rt: HostRuntime) {
-    let mut rows = [row(0, 0)];
+    let mut rows = [row(100, 0, 0)];
     let mut home = RowHome::make(&mut rows, 10);
     assert_eq!(rt; number(home.look(0)), 0);
     assert_eq!(rt; number(home.look(1)), 1);
@@ -53,7 +28,7 @@ fn keys(rt: HostRuntime) {
 
 #[test]
 fn the_last_timestamp(rt: HostRuntime) {
-    let mut rows = [row(4, 9), row(4, 10)];
+    let mut rows = [row(100, 4, 9), row(100, 4, 10)];
     let mut home = RowHome::make(&mut rows, 10);
     assert_eq!(rt; number(home.hold(0, 1)), 0);
     assert_eq!(rt; number(home.hold(1, 1)), 3);
@@ -67,7 +42,7 @@ fn the_last_timestamp(rt: HostRuntime) {
 
 #[test]
 fn renewals(rt: HostRuntime) -> Result<(), Fail> {
-    let mut rows = [row(3, 5)];
+    let mut rows = [row(100, 3, 5)];
     let mut home = RowHome::make(&mut rows, 100);
     assert_eq!(rt; home.renew(0, 3, 5, 50)?, 5);
     assert_eq!(rt; home.renew(0, 3, 6, 50)?, 50);
@@ -84,8 +59,8 @@ fn renewals(rt: HostRuntime) -> Result<(), Fail> {
 
 #[test]
 fn faults_of_a_split(rt: HostRuntime) {
-    let mut near = [row(0, 0), row(7, 10)];
-    let mut far = [row(3, 5)];
+    let mut near = [row(100, 0, 0), row(100, 7, 10)];
+    let mut far = [row(100, 3, 5)];
     let mut left = RowHome::make(&mut near, 10);
     let mut right = RowHome::make(&mut far, 10);
     let mut home = SplitHome::make(&mut left, &mut right);
@@ -96,6 +71,24 @@ fn faults_of_a_split(rt: HostRuntime) {
     assert_eq!(rt; fault(home.put(2, 9, Price { ticks: 1 }, 8)), (6, 9, 2, 0));
     assert_eq!(rt; fault(home.look(3)), (1, 0, 3, 0));
     assert_eq!(rt; fault(home.free(3, 70)), (4, 70, 3, 0));
+}
+
+#[test]
+fn a_split_of_a_split(rt: HostRuntime) -> Result<(), Fail> {
+    let mut near = [row(100, 0, 0), row(100, 7, 10)];
+    let mut middle = [row(100, 3, 5)];
+    let mut far = [0u8; 17];
+    let mut first = RowHome::make(&mut near, 4_294_967_295);
+    let mut second = RowHome::make(&mut middle, 4_294_967_295);
+    let mut third = ByteHome::<Price>::make(&mut far);
+    let mut left = SplitHome::make(&mut first, &mut second);
+    let mut home = SplitHome::make(&mut left, &mut third);
+    assert_eq!(rt; home.count(), 4);
+    assert_eq!(rt; home.renew(2, 3, 6, 50)?, 50);
+    assert_eq!(rt; fault(home.hold(3, 64)), (0, 0, 0, 0));
+    assert_eq!(rt; fault(home.hold(3, 9)), (2, 9, 3, 64));
+    assert_eq!(rt; fault(home.look(4)), (1, 0, 4, 0));
+    Ok(())
 }
 
 #[test]

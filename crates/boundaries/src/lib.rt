@@ -4,6 +4,8 @@
 #[cfg(test)]
 mod calls;
 #[cfg(test)]
+mod helpers;
+#[cfg(test)]
 mod openings;
 #[cfg(test)]
 mod values;

@@ -16,6 +16,7 @@ pub const BYTE_LAST: u64 = 4_294_967_295;
 pub(crate) fn split_row(bytes: &[u8]) -> Option<Row<u64>>
     ensures { result ≡ (if nat_eq (length bytes.now) 17 then Some (word_row bytes.now) else None) }
 {
+    // One slice pattern, a rule of the project, and no parts taken off one after the other.
     let [
         w0,
         w1,

@@ -1,14 +1,14 @@
 // A quote server's morning: reads a curve and the orders for it, serves them, and prints what came of it.
 #![tactic(auto)]
 
-use anyhow::anyhow;
 use byte_home::{BYTE_LAST, ByteHome};
-use home::{Home, Refusal, Row};
+use home::{Fault, Home, Row};
 use kinds::Node;
-use quotes::{MorningText, Tally, Unread, read_text, run_morning};
+use quotes::{MorningText, Unread, read_text, run_morning};
 use row_home::RowHome;
 use split_home::SplitHome;
 use std::alloc::{AllocError, Global};
+use std::fmt::{self, Write};
 use std::io::Read;
 
 // The most bytes of input that are read.
@@ -29,11 +29,11 @@ fn main(rt: HostRuntime) -> anyhow::Result<()> {
     };
     match read_text(rt.alloc(), text) {
         Ok(mut morning) => serve(&rt, &mut morning),
-        Err(Unread::BadLine(number)) => {
-            println!(rt; "line {number} is no line of a morning")?;
+        Err(unread @ Unread::BadLine(_)) => {
+            println!(rt; "{unread}")?;
             Ok(())
         }
-        Err(Unread::NoMemory) => Err(anyhow!("no memory")),
+        Err(unread) => Err(unread.into()),
     }
 }
 
@@ -42,16 +42,14 @@ fn serve(rt: &HostRuntime, morning: &mut MorningText) -> anyhow::Result<()> {
     match run_morning(&mut morning.near, &mut morning.far, &morning.orders) {
         Ok(tally) => {
             let after = rows_of(rt.alloc(), &mut morning.near, &mut morning.far)?;
-            print!(rt; "before\n{before}after\n{after}")?;
-            summary(rt, &tally)
+            print!(rt; "before\n{before}after\n{after}{tally}")?;
         }
-        Err(fault) => {
-            let number = fault.refusal.number();
-            let word = fault.refusal.word();
-            println!(rt; "the curve cannot be opened: {number} {word}")?;
-            Ok(())
+        Err(Fault { refusal, .. }) => {
+            let number = refusal.number();
+            println!(rt; "the curve cannot be opened: {number} {refusal}")?;
         }
     }
+    Ok(())
 }
 
 // The rows of the curve, a line each.
@@ -62,41 +60,31 @@ fn rows_of(heap: Global, near: &mut [Row<Node>], far: &mut [u8]) -> Result<Strin
     let mut lines = String::new(heap);
     for key in 0..home.count() {
         if let Ok(row) = home.look(key) {
-            let line = row_line(heap, key, &row)?;
-            lines.push_str(line.as_str())?;
+            writeln!(lines, "{}", Quoted { key, row })?;
         }
     }
     Ok(lines)
 }
 
-fn row_line(heap: Global, key: u32, row: &Row<Node>) -> Result<String, AllocError> {
-    let day = row.value.day();
-    let rate = row.value.rate();
-    let wts = row.wts;
-    let rts = row.rts;
-    let holder = row.holder;
-    format!(in heap; "{key:>3}  day {day:>5}  rate {rate:>7}  [{wts}, {rts}]  holder {holder}\n")
+// A row of the curve under its key.
+#[derive(Clone, Copy)]
+struct Quoted {
+    key: u32,
+    row: Row<Node>,
 }
 
-// Prints how many orders were done, and how many refused for which reason.
-fn summary(rt: &HostRuntime, tally: &Tally) -> anyhow::Result<()> {
-    let accepted = tally.accepted;
-    println!(rt; "accepted {accepted:>4}")?;
-    for refusal in [
-        Refusal::NoKey,
-        Refusal::Held,
-        Refusal::TimeSpent,
-        Refusal::NoPlace,
-        Refusal::MovedOn,
-        Refusal::NotYours,
-        Refusal::TooEarly,
-    ] {
-        let number = refusal.number();
-        let count = tally.refused[number as usize];
-        if count > 0 {
-            let word = refusal.word();
-            println!(rt; "refused  {count:>4}  {number} {word}")?;
-        }
+impl fmt::Display for Quoted {
+    fn fmt<W: fmt::Write>(&self, f: &mut fmt::Formatter<W>) -> fmt::Result {
+        let row = &self.row;
+        write!(
+            f,
+            "{:>3}  day {:>5}  rate {:>7}  [{}, {}]  holder {}",
+            self.key,
+            row.value.day(),
+            row.value.rate(),
+            row.wts,
+            row.rts,
+            row.holder
+        )
     }
-    Ok(())
 }

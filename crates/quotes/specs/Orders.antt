@@ -5,7 +5,7 @@
 --   ordered m order              what any order comes to
 --   served m order               what it leaves of the home
 --   told m order                 whether it was done, or why not
-use Rattle.std.specs.Prelude.{ℕ, ◌+◌, ℤ, Some, None, Ok, Err, Option, Result}
+use Rattle.std.specs.Prelude.{ℕ, ◌+◌, ℤ, Some, None, Option, Result}
 use Rattle.std.specs.List.{slice_get}
 use Rattle.home.specs.declared.fault.Fault.{Fault}
 use Rattle.home.specs.declared.row.Row.{Row}
@@ -66,7 +66,3 @@ served m order = after m (key_of order) (ordered m order)
 
 abbrev pub told : Meaning Node → Order → Result (Unit {0}) Fault
 told m order = answer nothing (desk_of order) (key_of order) (ordered m order)
-
-abbrev pub without_time : Result ℕ Fault → Result (Unit {0}) Fault
-without_time (Ok t) = Ok tt
-without_time (Err fault) = Err fault

@@ -5,8 +5,9 @@ use crate::order::Order;
 use byte_home::pack_row;
 use home::Row;
 use kinds::Node;
-use std::alloc::{AllocError, AllocFailed, Global};
+use std::alloc::{AllocError, Global};
 use std::str::{FromStr, SplitWhitespace};
+use thiserror::Error;
 
 // One line of the text.
 #[derive(Clone, Copy)]
@@ -48,10 +49,7 @@ pub fn read_line(line: &str) -> Option<Line> {
         }),
         _ => return None,
     };
-    match words.next() {
-        None => Some(read),
-        Some(_) => None,
-    }
+    words.next().is_none().then_some(read)
 }
 
 // A morning's text, read: the curve in two tables, with every lease from 0 to 0, and what to do.
@@ -63,23 +61,12 @@ pub struct MorningText {
 }
 
 // Why a text could not be read.
-#[derive(Drop)]
+#[derive(Debug, Drop, Error)]
 pub enum Unread {
-    // This line is no line of a morning.
+    #[error("line {0} is no line of a morning")]
     BadLine(usize),
-    NoMemory,
-}
-
-impl From<AllocError> for Unread {
-    fn from(_: AllocError) -> Unread {
-        Unread::NoMemory
-    }
-}
-
-impl<T: Drop> From<AllocFailed<T>> for Unread {
-    fn from(_: AllocFailed<T>) -> Unread {
-        Unread::NoMemory
-    }
+    #[error("no memory")]
+    NoMemory(#[from(alloc)] AllocError),
 }
 
 // Reads the whole text, a line each.
@@ -90,10 +77,8 @@ pub fn read_text(heap: Global, text: &str) -> Result<MorningText, Unread> {
         orders: Vec::new(heap),
     };
     for (above, line) in text.lines().enumerate() {
-        match read_line(line) {
-            Some(read) => morning.add(read)?,
-            None => return Err(Unread::BadLine(above.saturating_add(1))),
-        }
+        let read = read_line(line).ok_or(Unread::BadLine(above + 1))?;
+        morning.add(read)?;
     }
     Ok(morning)
 }
@@ -127,7 +112,7 @@ fn number<N: FromStr>(words: &mut SplitWhitespace) -> Option<N>
 where
     N::Err: Drop,
 {
-    words.next()?.parse::<N>().ok()
+    words.next()?.parse().ok()
 }
 
 // The next two words, as a day and a rate.

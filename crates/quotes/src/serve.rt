@@ -1,7 +1,7 @@
 // The orders, each by calls of the home.
 ghost use Rattle.std.specs.Prelude.{◌≡◌};
 ghost use Rattle.home.specs.Meaning.{after, answer, end_of};
-ghost use Rattle.quotes.specs.Orders.{kept, quoted, served, told, withdrawn, without_time};
+ghost use Rattle.quotes.specs.Orders.{kept, quoted, served, told, withdrawn};
 
 use crate::order::Order;
 use home::{Change, Fault, Home, amend};
@@ -16,7 +16,7 @@ pub fn quote<H: Home<Value = Node>>(
     rate: i32,
 ) -> Result<u64, Fault>
     ensures answer { result ≡ answer end_of place key (quoted (H.Home.meaning home.old) key place rate) }
-    ensures after { H.Home.meaning home.new ≡ after (H.Home.meaning home.old) key (quoted (H.Home.meaning home.old) key place rate) }
+    ensures after { let m = H.Home.meaning home.old in H.Home.meaning home.new ≡ after m key (quoted m key place rate) }
     ensures memory { H.Home.memory home.new ≡ H.Home.memory home.old }
 {
     let lease = home.hold(key, place)?;
@@ -29,7 +29,7 @@ pub fn quote<H: Home<Value = Node>>(
 // Begins to quote and gives up: holds the node and frees it. Answers where its lease ends.
 pub fn withdraw<H: Home<Value = Node>>(home: &mut H, place: u32, key: u32) -> Result<u64, Fault>
     ensures answer { result ≡ answer end_of place key (withdrawn (H.Home.meaning home.old) key place) }
-    ensures after { H.Home.meaning home.new ≡ after (H.Home.meaning home.old) key (withdrawn (H.Home.meaning home.old) key place) }
+    ensures after { let m = H.Home.meaning home.old in H.Home.meaning home.new ≡ after m key (withdrawn m key place) }
     ensures memory { H.Home.memory home.new ≡ H.Home.memory home.old }
 {
     let lease = home.hold(key, place)?;
@@ -40,7 +40,7 @@ pub fn withdraw<H: Home<Value = Node>>(home: &mut H, place: u32, key: u32) -> Re
 // Makes the standing quote last until `t`, and answers where its lease then ends.
 pub fn keep<H: Home<Value = Node>>(home: &mut H, key: u32, t: u64) -> Result<u64, Fault>
     ensures answer { result ≡ answer end_of 0 key (kept (H.Home.meaning home.old) key t) }
-    ensures after { H.Home.meaning home.new ≡ after (H.Home.meaning home.old) key (kept (H.Home.meaning home.old) key t) }
+    ensures after { let m = H.Home.meaning home.old in H.Home.meaning home.new ≡ after m key (kept m key t) }
     ensures memory { H.Home.memory home.new ≡ H.Home.memory home.old }
 {
     let row = home.look(key)?;
@@ -54,20 +54,10 @@ pub fn serve_order<H: Home<Value = Node>>(home: &mut H, order: Order) -> Result<
     ensures memory { H.Home.memory home.new ≡ H.Home.memory home.old }
 {
     match order {
-        Order::Quote { place, key, rate } => done(quote(home, place, key, rate)),
-        Order::Withdraw { place, key } => done(withdraw(home, place, key)),
+        Order::Quote { place, key, rate } => quote(home, place, key, rate).map(|_| ()),
+        Order::Withdraw { place, key } => withdraw(home, place, key).map(|_| ()),
         Order::Take { place, key } => amend(home, key, Change::Hold { place }),
         Order::Release { place, key } => amend(home, key, Change::Free { place }),
-        Order::Keep { key, t } => done(keep(home, key, t)),
-    }
-}
-
-// An answer without its timestamp.
-fn done(answer: Result<u64, Fault>) -> Result<(), Fault>
-    ensures { result ≡ without_time answer }
-{
-    match answer {
-        Ok(_) => Ok(()),
-        Err(fault) => Err(fault),
+        Order::Keep { key, t } => keep(home, key, t).map(|_| ()),
     }
 }

@@ -2,7 +2,8 @@
 ghost use Rattle.std.specs.Prelude.{◌≡◌};
 ghost use Rattle.quotes.specs.Days.{no_tally, tallied};
 
-use home::Fault;
+use home::{Fault, Refusal};
+use std::fmt;
 
 // The counts of a morning; `refused` goes by the number of the refusal, 1 to 19.
 #[derive(Clone, Copy)]
@@ -29,10 +30,32 @@ impl Tally {
         match answer {
             Ok(()) => self.accepted = self.accepted.saturating_add(1),
             Err(fault) => {
-                let number = fault.refusal.number() as usize;
-                let before = self.refused[number];
-                self.refused[number] = before.saturating_add(1);
+                let number = usize::from(fault.refusal.number());
+                self.refused[number] = self.refused[number].saturating_add(1);
             }
         }
+    }
+}
+
+// A line for what was done, and one for each reason for which a home refused anything.
+impl fmt::Display for Tally {
+    fn fmt<W: fmt::Write>(&self, f: &mut fmt::Formatter<W>) -> fmt::Result {
+        writeln!(f, "accepted {:>4}", self.accepted)?;
+        for refusal in [
+            Refusal::NoKey,
+            Refusal::Held,
+            Refusal::TimeSpent,
+            Refusal::NoPlace,
+            Refusal::MovedOn,
+            Refusal::NotYours,
+            Refusal::TooEarly,
+        ] {
+            let number = refusal.number();
+            let count = self.refused[usize::from(number)];
+            if count > 0 {
+                writeln!(f, "refused  {count:>4}  {number} {refusal}")?;
+            }
+        }
+        Ok(())
     }
 }

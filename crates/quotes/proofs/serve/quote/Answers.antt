@@ -18,7 +18,7 @@ returns-in_err-lease g c =
 pub overflow_add-t : goal.overflow_add-t
 overflow_add-t g c =
     let m = g.H.Home.meaning c.args.home.now in
-    let h = hold_room m c.args.key c.args.place _ c.hold.ensures.sound c.in_ok-lease.ensures.answer in
+    let h = hold_room m c.args.key c.args.place _ (g.met.H.Home.sound c.args.home.now) c.in_ok-lease.ensures.answer in
     record { fits = omega arith }
 
 pub returns-in_err-row : goal.returns-in_err-row
@@ -27,7 +27,7 @@ returns-in_err-row g c =
     let n = g.H.Home.meaning c.hold.new.self in
     let k = c.args.key in
     let p = c.args.place in
-    absurd (never_gone m n k p _ c.hold.ensures.sound c.in_ok-lease.ensures.answer c.hold.ensures.after _ c.in_err-row.ensures.answer)
+    absurd (never_gone m n k p _ (g.met.H.Home.sound c.args.home.now) c.in_ok-lease.ensures.answer c.hold.ensures.after _ c.in_err-row.ensures)
 
 pub returns-in_err-put : goal.returns-in_err-put
 returns-in_err-put g c =
@@ -36,7 +36,7 @@ returns-in_err-put g c =
     let k = c.args.key in
     let p = c.args.place in
     let new : c.with_rate.result ≡ with_rate c.in_ok-row.row.value c.args.rate = search rules in
-    absurd (never_barred m n k p _ c.hold.ensures.sound c.in_ok-lease.ensures.answer c.hold.ensures.after _ c.args.rate _ _ c.in_ok-row.ensures.answer new c.in_err-put.ensures.answer)
+    absurd (never_barred m n k p _ (g.met.H.Home.sound c.args.home.now) c.in_ok-lease.ensures.answer c.hold.ensures.after _ c.args.rate _ _ c.in_ok-row.ensures new c.in_err-put.ensures.answer)
 
 pub returns : goal.returns
 returns g c =
@@ -46,7 +46,7 @@ returns g c =
     let p = c.args.place in
     let new : c.with_rate.result ≡ with_rate c.in_ok-row.row.value c.args.rate = search rules in
     record {
-      answer = quote_answer m n k p _ c.hold.ensures.sound c.in_ok-lease.ensures.answer c.hold.ensures.after c.args.rate;
-      after = c.put.ensures.after ∙ quote_after m n k p _ c.hold.ensures.sound c.in_ok-lease.ensures.answer c.hold.ensures.after _ c.args.rate _ c.in_ok-row.ensures.answer new;
+      answer = quote_answer m n k p _ (g.met.H.Home.sound c.args.home.now) c.in_ok-lease.ensures.answer c.hold.ensures.after c.args.rate;
+      after = c.put.ensures.after ∙ quote_after m n k p _ (g.met.H.Home.sound c.args.home.now) c.in_ok-lease.ensures.answer c.hold.ensures.after _ c.args.rate _ c.in_ok-row.ensures new;
       memory = c.put.ensures.memory ∙ c.hold.ensures.memory;
     }

@@ -19,7 +19,7 @@ returns-in_err-free g c =
     let n = g.H.Home.meaning c.hold.new.self in
     let k = c.args.key in
     let p = c.args.place in
-    absurd (never_kept m n k p _ c.hold.ensures.sound c.in_ok-lease.ensures.answer c.hold.ensures.after _ c.in_err-free.ensures.answer)
+    absurd (never_kept m n k p _ (g.met.H.Home.sound c.args.home.now) c.in_ok-lease.ensures.answer c.hold.ensures.after _ c.in_err-free.ensures.answer)
 
 pub returns : goal.returns
 returns g c =
@@ -28,7 +28,7 @@ returns g c =
     let k = c.args.key in
     let p = c.args.place in
     record {
-      answer = withdraw_answer m n k p _ c.hold.ensures.sound c.in_ok-lease.ensures.answer c.hold.ensures.after;
-      after = c.free.ensures.after ∙ withdraw_after m n k p _ c.hold.ensures.sound c.in_ok-lease.ensures.answer c.hold.ensures.after;
+      answer = withdraw_answer m n k p _ (g.met.H.Home.sound c.args.home.now) c.in_ok-lease.ensures.answer c.hold.ensures.after;
+      after = c.free.ensures.after ∙ withdraw_after m n k p _ (g.met.H.Home.sound c.args.home.now) c.in_ok-lease.ensures.answer c.hold.ensures.after;
       memory = c.free.ensures.memory ∙ c.hold.ensures.memory;
     }
