@@ -1,7 +1,8 @@
 -- The laws of a change.
-use Rattle.std.proofs.Common.{◌≡◌, ℕ, zero, suc, ◌<◌, ◌≤◌, Bool, true, false, cond, List, [], ◌∷◌, length, set, Some, None, Ok, Err, Option, sym, refl, ap, ◌∙◌, arith, length-set}
+use Rattle.std.proofs.Common.{◌≡◌, ℕ, ◌<◌, ◌≤◌, Bool, true, false, cond, List, length, set, Some, None, Ok, Err, Option, sym, refl, ap, ◌∙◌, arith, length-set}
 use Rattle.std.specs.List.{slice_get}
-use Rattle.std.proofs.lemmas.List.{set-set}
+use Rattle.std.proofs.lemmas.List.{set-set, get_or-set_same, get_or-set_other}
+use Rattle.std.proofs.lemmas.Option.{gets, slice_get-get_or, slice_get_cases, slice_get_within}
 use Rattle.std.proofs.lemmas.Bool.Decides.{nat_tests}
 use Rattle.home.specs.declared.fault.Fault.{Fault}
 use Rattle.home.specs.declared.row.Cause.{Cause}
@@ -17,21 +18,10 @@ module _ {V : Type 0} where
   -- ---- lists
 
   pub nth_set_same : (rows : List (Row V)) (key : ℕ) (row : Row V) → key < length rows → slice_get (set rows key row) key ≡ Some row
-  nth_set_same [] key row within = absurd (omega arith)
-  nth_set_same (r ∷ rows) zero row within = refl
-  nth_set_same (r ∷ rows) (suc key) row within = nth_set_same rows key row (omega arith)
+  nth_set_same rows key row within = slice_get-get_or (set rows key row) key row (simp length-set within) ∙ ap (λ (r : Row V). Some r) (get_or-set_same rows key row row within)
 
   pub nth_set_other : (rows : List (Row V)) (key k : ℕ) (row : Row V) → (k ≡ key → ⊥) → slice_get (set rows key row) k ≡ slice_get rows k
-  nth_set_other [] key k row apart = refl
-  nth_set_other (r ∷ rows) zero zero row apart = absurd (apart refl)
-  nth_set_other (r ∷ rows) zero (suc k) row apart = refl
-  nth_set_other (r ∷ rows) (suc key) zero row apart = refl
-  nth_set_other (r ∷ rows) (suc key) (suc k) row apart = nth_set_other rows key k row (λ same. apart (ap suc same))
-
-  pub nth_within : (rows : List (Row V)) (key : ℕ) (row : Row V) → slice_get rows key ≡ Some row → key < length rows
-  nth_within [] key row at = absurd (let z : ◌≡◌ {A = ℕ} 0 1 = cc in omega arith)
-  nth_within (r ∷ rows) zero row at = omega arith
-  nth_within (r ∷ rows) (suc key) row at = let h = nth_within rows key row at in omega arith
+  nth_set_other rows key k row apart = grind (arith, gets, length-set rows key row, slice_get_cases rows k, slice_get_cases (set rows key row) k, get_or-set_other rows key k row)
 
   -- ---- one row
 
@@ -42,20 +32,20 @@ module _ {V : Type 0} where
   amended_leases last (Free place) row new ok is = (grind (arith, nat_tests), grind (arith, nat_tests))
 
   amended_holder : (last : ℕ) (change : Change V) (row new : Row V) → keeps_holder change ≡ true → amended last change row ≡ grants new → new.holder ≡ row.holder
-  amended_holder last (Hold place) row new keeps is = absurd (let z : ◌≡◌ {A = ℕ} 0 1 = cc in omega arith)
+  amended_holder last (Hold place) row new keeps is = cc
   amended_holder last (Renew wts t wish) row new keeps is = grind (arith, nat_tests)
-  amended_holder last (Put place value t) row new keeps is = absurd (let z : ◌≡◌ {A = ℕ} 0 1 = cc in omega arith)
-  amended_holder last (Free place) row new keeps is = absurd (let z : ◌≡◌ {A = ℕ} 0 1 = cc in omega arith)
+  amended_holder last (Put place value t) row new keeps is = cc
+  amended_holder last (Free place) row new keeps is = cc
 
   -- ---- what a caller learns from an answer
 
   module _ {A : Type 0} (f : Row V → A) (place key : ℕ) where
     pub refused_from : (o : Outcome V) (fault : Fault) → answer f place key o ≡ Err fault → (cause : Cause) × (o ≡ refuses cause) × (fault ≡ fault_at place key cause)
     refused_from (refuses cause) fault is = (cause, refl, cc)
-    refused_from (grants row) fault is = absurd (let z : ◌≡◌ {A = ℕ} 0 1 = cc in omega arith)
+    refused_from (grants row) fault is = cc
 
     pub granted_from : (o : Outcome V) (a : A) → answer f place key o ≡ Ok a → (row : Row V) × (o ≡ grants row) × (a ≡ f row)
-    granted_from (refuses cause) a is = absurd (let z : ◌≡◌ {A = ℕ} 0 1 = cc in omega arith)
+    granted_from (refuses cause) a is = cc
     granted_from (grants row) a is = (row, refl, cc)
 
   -- ---- a change
@@ -66,12 +56,12 @@ module _ {V : Type 0} where
   granted m key change new is = by_place (well_placed change) is
     where
       by_row : (at : Option (Row V)) → slice_get m.rows key ≡ at → amended_at m.last change at ≡ grants new → (row : Row V) × (slice_get m.rows key ≡ Some row) × (amended m.last change row ≡ grants new)
-      by_row None at is = absurd (let z : ◌≡◌ {A = ℕ} 0 1 = cc in omega arith)
+      by_row None at is = cc
       by_row (Some row) at is = (row, at, is)
 
       by_place : (b : Bool) → cond b (amended_at m.last change (slice_get m.rows key)) (refuses no_place) ≡ grants new → (row : Row V) × (slice_get m.rows key ≡ Some row) × (amended m.last change row ≡ grants new)
       by_place true is = by_row _ refl is
-      by_place false is = absurd (let z : ◌≡◌ {A = ℕ} 0 1 = cc in omega arith)
+      by_place false is = cc
 
   -- and its place was one
   pub granted_place : (m : Meaning V) (key : ℕ) (change : Change V) (new : Row V) → changed m key change ≡ grants new → well_placed change ≡ true
@@ -80,7 +70,7 @@ module _ {V : Type 0} where
     where
       by_place : (b : Bool) → cond b (amended_at m.last change (slice_get m.rows key)) (refuses no_place) ≡ grants new → b ≡ true
       by_place true is = refl
-      by_place false is = absurd (let z : ◌≡◌ {A = ℕ} 0 1 = cc in omega arith)
+      by_place false is = cc
 
   -- a change at a place, of a key that is there, is the row's
   pub changed_at : (m : Meaning V) (key : ℕ) (change : Change V) (row : Row V) → well_placed change ≡ true → slice_get m.rows key ≡ Some row → changed m key change ≡ amended m.last change row
@@ -93,7 +83,7 @@ module _ {V : Type 0} where
 
   -- what is found under the key of a granted change
   pub found_after : (m : Meaning V) (key : ℕ) (change : Change V) (new : Row V) → changed m key change ≡ grants new → slice_get (after m key (grants new)).rows key ≡ Some new
-  found_after m key change new is = let g = granted m key change new is in nth_set_same m.rows key new (nth_within m.rows key g.0 g.1)
+  found_after m key change new is = let g = granted m key change new is in nth_set_same m.rows key new (slice_get_within m.rows key g.0 g.1)
 
   pub looked_at : (m : Meaning V) (key : ℕ) (row : Row V) → slice_get m.rows key ≡ Some row → looked m key ≡ Ok row
   unfolding looked
@@ -111,9 +101,9 @@ module _ {V : Type 0} where
   }
   by_outcome f place m key change (grants row) is was sound =
       let g = granted m key change row is in
-      let put = nth_set_same m.rows key row (nth_within m.rows key g.0 g.1) in
+      let put = nth_set_same m.rows key row (slice_get_within m.rows key g.0 g.1) in
       record {
-        refused = λ no'. absurd (let z : ◌≡◌ {A = ℕ} 0 1 = cc in omega arith);
+        refused = λ no'. cc;
         count = length-set m.rows key row;
         last = refl;
         others = λ k apart. nth_set_other m.rows key k row apart;

@@ -25,7 +25,7 @@ module _ {V : Type 0} where
 
   by_flaw : (last key : ℕ) (row : Row V) (rows : List (Row V)) (found : Option Flaw) → row_flaw last row ≡ found → unless_bad key found (first_bad (row_flaw last) (key + 1) rows) ≡ Ok tt → (first_bad (row_flaw last) (key + 1) rows ≡ Ok tt → all_fair last rows ≡ true) → all_fair last (row ∷ rows) ≡ true
   by_flaw last key row rows None is ok rest = and_from _ _ (fair_none last row is) (rest ok)
-  by_flaw last key row rows (Some flaw) is ok rest = absurd (let z : ◌≡◌ {A = ℕ} 0 1 = cc in omega arith)
+  by_flaw last key row rows (Some flaw) is ok rest = cc
 
   pub all_fair_from : (last key : ℕ) (rows : List (Row V)) → first_bad (row_flaw last) key rows ≡ Ok tt → all_fair last rows ≡ true
   all_fair_from last key [] ok = refl
