@@ -1,5 +1,5 @@
 -- What holds of every call of a home, whatever its rule.
-use Rattle.std.proofs.Common.{◌≡◌, ℕ, ◌<◌, Bool, true, false, cond, List, length, set, Some, None, Ok, Err, Option, sym, refl, ap, ◌∙◌, arith, length-set}
+use Rattle.std.proofs.Common.{◌≡◌, ℕ, ◌<◌, Bool, true, cond, List, length, set, Some, Ok, Err, Option, sym, refl, ap, ◌∙◌, arith, length-set}
 use Rattle.std.specs.List.{slice_get}
 use Rattle.std.proofs.lemmas.List.{set-get_or}
 use Rattle.std.proofs.lemmas.List.Recursion.{and_at, and_set}
@@ -65,14 +65,10 @@ module _ {V : Type 0} where
         rows = fair_set m.last m.rows key new all fair_new;
       }
 
-  by_row : (m : Meaning V) (key : ℕ) (change : Change V) (at : Option (Row V)) → slice_get m.rows key ≡ at → well_placed change ≡ true → Sound m → Sound (after m key (amended_at m.last change at))
-  by_row m key change None at ok s = s
-  by_row m key change (Some row) at ok s = fair_after m key change row _ ok s.rows at refl s
-
-  by_place : (m : Meaning V) (key : ℕ) (change : Change V) (b : Bool) → well_placed change ≡ b → Sound m → Sound (after m key (cond b (amended_at m.last change (slice_get m.rows key)) (refuses no_place)))
-  by_place m key change true ok s = by_row m key change _ refl ok s
-  by_place m key change false ok s = s
-
   pub sound_after : (m : Meaning V) (key : ℕ) (change : Change V) → Sound m → Sound (after m key (changed m key change))
   unfolding changed
-  sound_after m key change s = by_place m key change _ refl s
+  sound_after m key change s = go (well_placed change) (slice_get m.rows key) refl refl
+    where
+      go : (b : Bool) (at : Option (Row V)) → well_placed change ≡ b → slice_get m.rows key ≡ at → Sound (after m key (cond b (amended_at m.last change at) (refuses no_place)))
+      go true (Some row) ok at = fair_after m key change row _ ok s.rows at refl s
+      go b o ok at = s

@@ -1,5 +1,5 @@
 -- The laws of a change.
-use Rattle.std.proofs.Common.{◌≡◌, ℕ, ◌<◌, ◌≤◌, Bool, true, false, cond, List, length, set, Some, None, Ok, Err, Option, sym, refl, ap, ◌∙◌, arith, length-set}
+use Rattle.std.proofs.Common.{◌≡◌, ℕ, ◌<◌, ◌≤◌, Bool, true, cond, List, length, set, Some, Ok, Err, Option, refl, ap, ◌∙◌, arith, length-set}
 use Rattle.std.specs.List.{slice_get}
 use Rattle.std.proofs.lemmas.List.{set-set, get_or-set_same, get_or-set_other}
 use Rattle.std.proofs.lemmas.Option.{gets, slice_get-get_or, slice_get_cases, slice_get_within}
@@ -8,9 +8,9 @@ use Rattle.home.specs.declared.fault.Fault.{Fault}
 use Rattle.home.specs.declared.row.Cause.{Cause}
 use Rattle.home.specs.declared.row.Row.{Row}
 use Rattle.home.specs.declared.row.Change.{Change}
-use Rattle.home.specs.declared.row.Change.TheVariants.{Hold, Renew, Put, Free}
+use Rattle.home.specs.declared.row.Change.TheVariants.{Hold, Renew}
 use Rattle.home.specs.Rows.{Outcome, refuses, grants, amended}
-use Rattle.home.specs.Meaning.{Meaning, Sound, after, amended_at, answer, changed, fair, fault_at, found, looked, no_place, raised, well_placed}
+use Rattle.home.specs.Meaning.{Meaning, Sound, after, amended_at, answer, changed, fair, fault_at, looked, no_place, well_placed}
 use Rattle.home.specs.Laws.{Lawful, keeps_holder}
 use Rattle.home.proofs.Calls.{fair_at, sound_after}
 
@@ -26,16 +26,12 @@ module _ {V : Type 0} where
   -- ---- one row
 
   amended_leases : (last : ℕ) (change : Change V) (row new : Row V) → fair last row ≡ true → amended last change row ≡ grants new → (row.wts ≤ new.wts) × (row.rts ≤ new.rts)
-  amended_leases last (Hold place) row new ok is = (grind (arith, nat_tests), grind (arith, nat_tests))
-  amended_leases last (Renew wts t wish) row new ok is = (grind (arith, nat_tests), grind (arith, nat_tests))
-  amended_leases last (Put place value t) row new ok is = (grind (arith, nat_tests), grind (arith, nat_tests))
-  amended_leases last (Free place) row new ok is = (grind (arith, nat_tests), grind (arith, nat_tests))
+  amended_leases last (Hold place) row new ok is = grind (arith, nat_tests)
+  amended_leases last change row new ok is = grind (arith, nat_tests)
 
   amended_holder : (last : ℕ) (change : Change V) (row new : Row V) → keeps_holder change ≡ true → amended last change row ≡ grants new → new.holder ≡ row.holder
-  amended_holder last (Hold place) row new keeps is = cc
   amended_holder last (Renew wts t wish) row new keeps is = grind (arith, nat_tests)
-  amended_holder last (Put place value t) row new keeps is = cc
-  amended_holder last (Free place) row new keeps is = cc
+  amended_holder last change row new keeps is = cc
 
   -- ---- what a caller learns from an answer
 
@@ -53,29 +49,21 @@ module _ {V : Type 0} where
   -- a granted change found a row under its key, and left the row's rule there
   pub granted : (m : Meaning V) (key : ℕ) (change : Change V) (new : Row V) → changed m key change ≡ grants new → (row : Row V) × (slice_get m.rows key ≡ Some row) × (amended m.last change row ≡ grants new)
   unfolding changed
-  granted m key change new is = by_place (well_placed change) is
+  granted m key change new is = go (well_placed change) (slice_get m.rows key) refl is
     where
-      by_row : (at : Option (Row V)) → slice_get m.rows key ≡ at → amended_at m.last change at ≡ grants new → (row : Row V) × (slice_get m.rows key ≡ Some row) × (amended m.last change row ≡ grants new)
-      by_row None at is = cc
-      by_row (Some row) at is = (row, at, is)
-
-      by_place : (b : Bool) → cond b (amended_at m.last change (slice_get m.rows key)) (refuses no_place) ≡ grants new → (row : Row V) × (slice_get m.rows key ≡ Some row) × (amended m.last change row ≡ grants new)
-      by_place true is = by_row _ refl is
-      by_place false is = cc
+      go : (b : Bool) (at : Option (Row V)) → slice_get m.rows key ≡ at → cond b (amended_at m.last change at) (refuses no_place) ≡ grants new → (row : Row V) × (slice_get m.rows key ≡ Some row) × (amended m.last change row ≡ grants new)
+      go true (Some row) at is = (row, at, is)
+      go b o at is = cc
 
   -- and its place was one
   pub granted_place : (m : Meaning V) (key : ℕ) (change : Change V) (new : Row V) → changed m key change ≡ grants new → well_placed change ≡ true
   unfolding changed
-  granted_place m key change new is = by_place (well_placed change) is
-    where
-      by_place : (b : Bool) → cond b (amended_at m.last change (slice_get m.rows key)) (refuses no_place) ≡ grants new → b ≡ true
-      by_place true is = refl
-      by_place false is = cc
+  granted_place m key change new is = grind (arith, nat_tests)
 
   -- a change at a place, of a key that is there, is the row's
   pub changed_at : (m : Meaning V) (key : ℕ) (change : Change V) (row : Row V) → well_placed change ≡ true → slice_get m.rows key ≡ Some row → changed m key change ≡ amended m.last change row
   unfolding changed
-  changed_at m key change row ok at = ap (λ b. cond b (amended_at m.last change (slice_get m.rows key)) (refuses no_place)) ok ∙ ap (amended_at m.last change) at
+  changed_at m key change row ok at = rw (ok, at)
 
   -- a second change of the key is seen alone
   pub after_twice : (m : Meaning V) (key : ℕ) (one two : Row V) → after (after m key (grants one)) key (grants two) ≡ after m key (grants two)
@@ -87,7 +75,7 @@ module _ {V : Type 0} where
 
   pub looked_at : (m : Meaning V) (key : ℕ) (row : Row V) → slice_get m.rows key ≡ Some row → looked m key ≡ Ok row
   unfolding looked
-  looked_at m key row at = ap (λ x. raised 0 key (found x)) at
+  looked_at m key row at = rw at
 
   by_outcome : {A : Type 0} (f : Row V → A) (place : ℕ) (m : Meaning V) (key : ℕ) (change : Change V) (o : Outcome V) → changed m key change ≡ o → Sound m → Sound (after m key o) → Lawful m (after m key o) key change (answer f place key o)
   by_outcome f place m key change (refuses cause) is was sound = record {
@@ -95,8 +83,8 @@ module _ {V : Type 0} where
     count = refl;
     last = refl;
     others = λ k apart. refl;
-    leases = λ old new at now. let same : old ≡ new = cc in (let e = ap (λ (x : Row V). x.wts) same in omega arith, let e = ap (λ (x : Row V). x.rts) same in omega arith);
-    holder = λ keeps old new at now. let same : old ≡ new = cc in ap (λ (x : Row V). x.holder) (sym same);
+    leases = λ old new at now. grind arith;
+    holder = λ keeps old new at now. grind arith;
     sound = sound;
   }
   by_outcome f place m key change (grants row) is was sound =
@@ -107,20 +95,8 @@ module _ {V : Type 0} where
         count = length-set m.rows key row;
         last = refl;
         others = λ k apart. nth_set_other m.rows key k row apart;
-        leases = λ old new at now.
-            let one : g.0 ≡ old = cc in
-            let two : row ≡ new = cc in
-            let h = amended_leases m.last change g.0 row (fair_at m.last m.rows key g.0 was.rows g.1) g.2 in
-            let a = ap (λ (x : Row V). x.wts) one in
-            let b = ap (λ (x : Row V). x.wts) two in
-            let c = ap (λ (x : Row V). x.rts) one in
-            let d = ap (λ (x : Row V). x.rts) two in
-            (omega arith, omega arith);
-        holder = λ keeps old new at now.
-            let one : g.0 ≡ old = cc in
-            let two : row ≡ new = cc in
-            let h = amended_holder m.last change g.0 row keeps g.2 in
-            cc;
+        leases = λ old new at now. grind (arith, amended_leases m.last change g.0 row (fair_at m.last m.rows key g.0 was.rows g.1) g.2);
+        holder = λ keeps old new at now. grind (arith, amended_holder m.last change g.0 row keeps g.2);
         sound = sound;
       }
 
