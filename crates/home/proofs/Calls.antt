@@ -53,22 +53,16 @@ module _ {V : Type 0} where
   parts_sound m s = grind (arith, nat_tests)
 
   -- a change leaves the conditions as they were
-  fair_after : (m : Meaning V) (key : ℕ) (change : Change V) (row : Row V) (o : Outcome V) → well_placed change ≡ true → all_fair m.last m.rows ≡ true → slice_get m.rows key ≡ Some row → amended m.last change row ≡ o → Sound m → Sound (after m key o)
-  fair_after m key change row (refuses cause) ok all at same s = s
-  fair_after m key change row (grants new) ok all at same s =
-      let was = fair_at m.last m.rows key row all at in
-      let still = amended_fair m.last change row ok was in
-      let fair_new : fair m.last new ≡ true = ap (λ o. fair m.last (row_after row o)) (sym same) ∙ still in
-      record {
-        few = simp length-set s.few;
-        ends = s.ends;
-        rows = fair_set m.last m.rows key new all fair_new;
-      }
+  fair_after : (m : Meaning V) (key : ℕ) (change : Change V) (row : Row V) (o : Outcome V) → well_placed change ≡ true → slice_get m.rows key ≡ Some row → amended m.last change row ≡ o → Sound m → Sound (after m key o)
+  fair_after m key change row (refuses cause) ok at same s = s
+  fair_after m key change row (grants new) ok at same s =
+      let fair_new : fair m.last new ≡ true = rw same at (amended_fair m.last change row ok (fair_at m.last m.rows key row s.rows at)) in
+      record { few = simp length-set s.few; ends = s.ends; rows = fair_set m.last m.rows key new s.rows fair_new }
 
   pub sound_after : (m : Meaning V) (key : ℕ) (change : Change V) → Sound m → Sound (after m key (changed m key change))
   unfolding changed
   sound_after m key change s = go (well_placed change) (slice_get m.rows key) refl refl
     where
       go : (b : Bool) (at : Option (Row V)) → well_placed change ≡ b → slice_get m.rows key ≡ at → Sound (after m key (cond b (amended_at m.last change at) (refuses no_place)))
-      go true (Some row) ok at = fair_after m key change row _ ok s.rows at refl s
+      go true (Some row) ok at = fair_after m key change row _ ok at refl s
       go b o ok at = s
