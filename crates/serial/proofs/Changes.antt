@@ -20,7 +20,7 @@ held_one row = cond (eqb row.holder 0) 0 1
 
 module _ {V : Type 0} where
   pub held_set : (rows : List (Row V)) (k : ℕ) (row new : Row V) → slice_get rows k ≡ Some row → held_now (set rows k new) + held_one row ≡ held_now rows + held_one new
-  held_set [] k row new is = absurd (let z : ◌≡◌ {A = ℕ} 0 1 = cc in omega arith)
+  held_set [] k row new is = cc
   held_set (r ∷ rows) zero row new is =
       let same : r ≡ row = cc in
       let one = ap (λ (o : Row V). held_one o) same in
@@ -33,7 +33,7 @@ module _ {V : Type 0} where
     where
       go : (b : Bool) → when b (pending_write k l) ≡ Some v → (b ≡ true) × (pending_write k l ≡ Some v)
       go true is = (refl, is)
-      go false is = absurd (let z : ◌≡◌ {A = ℕ} 0 1 = cc in omega arith)
+      go false is = cc
 
   module _ (k : ℕ) (x : Option V) (row : Row V) (us : List (Transaction V)) (seats : ℕ → Seat V) (won : Option (V × ℕ)) (ok : KeyOk k x row us seats won) where
     -- Whoever has an unsettled write of the key is its holder.
@@ -66,8 +66,7 @@ module _ {V : Type 0} where
             absurd
             (let h = winner_holds w is in
             let o = won_open k (seats row.holder).live w.0 h.1 in
-            let z : ◌≡◌ {A = ℕ} 0 1 = cc in
-            omega arith)
+            cc)
 
     -- Where the row is held by another or by nobody, a place has no unsettled write of it.
     pub holds_none : (p : ℕ) → is_place p ≡ true → (row.holder ≡ p → ⊥) → is_some (pending_write k (seats p).live) ≡ false
@@ -131,8 +130,7 @@ module _ {V : Type 0} where
         gone : slice_get (set st.tables.home.rows k new) k ≡ None → ⊥
         gone is =
             let s = nth_set_same st.tables.home.rows k new ∙ ap (λ (a : Option (Row V)). over a new) ok.was in
-            let z : ◌≡◌ {A = ℕ} 0 1 = cc in
-            omega arith
+            cc
 
         none : (j : ℕ) → slice_get (set st.tables.home.rows k new) j ≡ None → VoidOk j (x j) (serial_order es) (seat_of next_state (e ∷ es))
         none j is =

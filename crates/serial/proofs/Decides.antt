@@ -34,7 +34,7 @@ module _ {V : Type 0} where
 
   -- An entry that is found stands somewhere in the sheet.
   found_nth : (k : ℕ) (es : List (Entry V)) (e : Entry V) → found k es ≡ Some e → (i : ℕ) × (slice_get es i ≡ Some e) × (i < length es)
-  found_nth k [] e is = absurd (let z : ◌≡◌ {A = ℕ} 0 1 = cc in omega arith)
+  found_nth k [] e is = cc
   found_nth k (a ∷ es) e is = go (eqb a.key k) is (λ later. found_nth k es e later)
     where
       go : (b : Bool) → cond b (Some a) (found k es) ≡ Some e → (found k es ≡ Some e → (i : ℕ) × (slice_get es i ≡ Some e) × (i < length es))
@@ -110,8 +110,8 @@ module _ {V : Type 0} where
         subst (Stake k x row (insert it us) after p) (sym m.here)
         (record {
           owner = (old.stakes p at).owner;
-          seen = λ u e is unwritten. absurd (let z : ◌≡◌ {A = ℕ} 0 1 = cc in omega arith);
-          holds = λ u is. absurd (let z : ◌≡◌ {A = ℕ} 0 1 = cc in omega arith);
+          seen = λ u e is unwritten. cc;
+          holds = λ u is. cc;
           wins = wins;
         })
 
@@ -128,7 +128,7 @@ module _ {V : Type 0} where
           winner = λ w is. still w (old.winner w is);
           stakes = λ q here.
               by_place (λ r. is_place r ≡ true → Stake k x row (insert it us) won r (next r)) p q
-              (λ _. stake_decided won (λ v is. absurd (let z : ◌≡◌ {A = ℕ} 0 1 = cc in omega arith)))
+              (λ _. stake_decided won (λ v is. cc))
               (λ apart here.
               subst (Stake k x row (insert it us) won q) (sym (m.others q here apart))
               (stake_grows k x row us (insert it us) won won q (seats q) (λ τ _. quiet_value k x τ it us quiet)
@@ -144,7 +144,7 @@ module _ {V : Type 0} where
           was.0,
           was.1,
           by_place (λ r. is_place r ≡ true → unsettled_write k (seats r).live ≡ Some w.0 → unsettled_write k (next r).live ≡ Some w.0) p was.0
-              (λ _ is. absurd (let o = (won_open k (seats p).live w.0 is).1 in let z : ◌≡◌ {A = ℕ} 0 1 = cc in omega arith))
+              (λ _ is. absurd (let o = (won_open k (seats p).live w.0 is).1 in cc))
               (λ apart here is. ap (λ (s : Seat V). unsettled_write k s.live) (m.others was.0 here apart) ∙ is)
               was.1 was.2,
         )
@@ -298,7 +298,7 @@ module _ {V : Type 0} where
       seated_decided : Seated (decided_seat seat)
       seated_decided =
           record {
-            free = λ no'. absurd (let z : ◌≡◌ {A = ℕ} 0 1 = cc in omega arith);
+            free = λ no'. cc;
             busy = λ _. record {
               few = busy.few;
               within = omega arith;

@@ -161,7 +161,7 @@ module _ {V : Type 0} where
     where
       go : (b : Bool) → Rattle.serial.specs.Transactions.when b (pending_write k l) ≡ Some v → b ≡ true
       go true is = refl
-      go false is = absurd (let z : ◌≡◌ {A = ℕ} 0 1 = cc in omega arith)
+      go false is = cc
 
   pub won_alike : (k : ℕ) (s n : Seat V) → Alike k s n → unsettled_write k n.live ≡ unsettled_write k s.live
   won_alike k s n a = let d = a.decided in let w = a.write in cc

@@ -23,7 +23,7 @@ Apart [] = Unit {0}
 Apart (k ∷ ks) = (among k ks ≡ false) × Apart ks
 
 missing : {A B : Type 0} {a : A} → None ≡ Some a → B
-missing is = absurd (let z : ◌≡◌ {A = ℕ} 0 1 = cc in omega arith)
+missing is = cc
 
 -- ---- lists of keys
 

@@ -23,13 +23,13 @@ use Rattle.serial.proofs.Steps.{keeps}
 use Rattle.serial.proofs.Invariant.{Good, Inv, KeyOk, Stake, bound, seat_of, standing}
 
 pub nth_map : {A B : Type 0} (f : A → B) (xs : List A) (i : ℕ) (x : A) → slice_get xs i ≡ Some x → slice_get (map f xs) i ≡ Some (f x)
-nth_map f [] i x is = absurd (let z : ◌≡◌ {A = ℕ} 0 1 = cc in omega arith)
+nth_map f [] i x is = cc
 nth_map {A} {B} f (a ∷ xs) zero x is = let same : a ≡ x = cc in ap (λ (o : A). Some (f o)) same
 nth_map f (a ∷ xs) (suc i) x is = nth_map f xs i x is
 
 pub nth_map_none : {A B : Type 0} (f : A → B) (xs : List A) (i : ℕ) → slice_get xs i ≡ None → slice_get (map f xs) i ≡ None
 nth_map_none f [] i is = refl
-nth_map_none f (a ∷ xs) zero is = absurd (let z : ◌≡◌ {A = ℕ} 0 1 = cc in omega arith)
+nth_map_none f (a ∷ xs) zero is = cc
 nth_map_none f (a ∷ xs) (suc i) is = nth_map_none f xs i is
 
 -- ---- the first that is there
@@ -53,7 +53,7 @@ module _ {V : Type 0} (f : ℕ → Option V) where
       go None here rest = rest (let other = apart in omega arith)
         where
           apart : p ≡ suc n → ⊥
-          apart same = let there = ap f same in let z : ◌≡◌ {A = ℕ} 0 1 = cc in omega arith
+          apart same = let there = ap f same in cc
 
 -- ---- transactions that leave a key alone
 
@@ -78,7 +78,7 @@ module _ {V : Type 0} where
     where
       go : (o : Option V) → last_write k l.ops ≡ o → when (among k (drop l.handled (keys_of l.ops))) o ≡ None
       go None is = when_none (among k (drop l.handled (keys_of l.ops)))
-      go (Some v) is = absurd (let some = written_among k l.ops v is in let z : ◌≡◌ {A = ℕ} 0 1 = cc in omega arith)
+      go (Some v) is = absurd (let some = written_among k l.ops v is in cc)
 
   unused_won : (k : ℕ) (l : Live V) → among k (keys_of l.ops) ≡ false → unsettled_write k l ≡ None
   unused_won k l none = ap (when l.decided) (unused_write k l none) ∙ when_none l.decided
@@ -115,7 +115,7 @@ module _ {V : Type 0} (start : List V) (es : List (Event V)) (st : Store V) (i :
         where
           go : (o : Option V) → unsettled_write k (live p es) ≡ o → o ≡ None
           go None is = refl
-          go (Some v) is = absurd (let w = (ok.stakes p at).wins v is in let z : ◌≡◌ {A = ℕ} 0 1 = cc in omega arith)
+          go (Some v) is = absurd (let w = (ok.stakes p at).wins v is in cc)
 
   open_some : (k : ℕ) (row : Row V) (w : V × ℕ) → RowOk k row (Some w) → unsettled k es ≡ Some w.0
   open_some k row w ok =
@@ -217,10 +217,10 @@ module _ {V : Type 0} where
       go : (b : Bool) → eqb row.holder 0 ≡ b → cond b (held_from (key + 1) rows) (Some (key, row.holder)) ≡ None →
           (row.holder ≡ 0) × (held_from (key + 1) rows ≡ None)
       go true free is = (grind (arith, nat_tests), is)
-      go false other is = absurd (let z : ◌≡◌ {A = ℕ} 0 1 = cc in omega arith)
+      go false other is = cc
 
   free_row : (key : ℕ) (rows : List (Row V)) → held_from key rows ≡ None → (k : ℕ) (row : Row V) → slice_get rows k ≡ Some row → row.holder ≡ 0
-  free_row key [] none k row is = absurd (let z : ◌≡◌ {A = ℕ} 0 1 = cc in omega arith)
+  free_row key [] none k row is = cc
   free_row key (r ∷ rows) none zero row is = let same : r ≡ row = cc in ap (λ (o : Row V). o.holder) (sym same) ∙ (free_first key r rows none).0
   free_row key (r ∷ rows) none (suc k) row is = free_row (key + 1) rows (free_first key r rows none).1 k row is
 
@@ -244,9 +244,9 @@ module _ {V : Type 0} where
         let none = freed_place places p many at in
         record {
           owner = grind (arith, nat_tests);
-          seen = λ u e is unwritten. absurd (let z : ◌≡◌ {A = ℕ} 0 1 = grind (arith, nat_tests) in omega arith);
-          holds = λ u is. absurd (let z : ◌≡◌ {A = ℕ} 0 1 = cc in omega arith);
-          wins = λ v is. absurd (let z : ◌≡◌ {A = ℕ} 0 1 = cc in omega arith);
+          seen = λ u e is unwritten. grind (arith, nat_tests);
+          holds = λ u is. cc;
+          wins = λ v is. cc;
         }
 
     clean_inv : Sound m → 64 ≤ length places → 1024 ≤ length entries → held_from 0 m.rows ≡ None →
@@ -257,7 +257,7 @@ module _ {V : Type 0} where
           long = long;
           seated = λ p at. record {
             free = λ _. refl;
-            busy = λ is. absurd (let free = freed_place places p many at in let z : ◌≡◌ {A = ℕ} 0 1 = grind (arith, nat_tests) in omega arith);
+            busy = λ is. absurd (let free = freed_place places p many at in grind (arith, nat_tests));
           };
           keys = λ k row is. (None, key k row is (free_row 0 m.rows none k row is));
           voids = λ k is. record { none = nth_map_none value_of m.rows k is; skipped = tt; fresh = λ p at. refl };
@@ -276,7 +276,7 @@ module _ {V : Type 0} where
               quiet = tt;
               sees = tt;
               above = tt;
-              winner = λ w won. absurd (let z : ◌≡◌ {A = ℕ} 0 1 = cc in omega arith);
+              winner = λ w won. cc;
               stakes = λ p at. free_stake k p row many at free;
               holder = inl free;
             }
@@ -304,14 +304,14 @@ module _ {V : Type 0} where
         by_held : (o : Option (ℕ × ℕ)) → held_from 0 m.rows ≡ o → is_short (length places) (length entries) ≡ false →
             (opening_clean places counter o).answer ≡ Ok tt → Good (λ k. slice_get (values_of m) k) [] (state (opening_clean places counter o))
         by_held None none enough is = clean_good sound (grind (arith, nat_tests)) (grind (arith, nat_tests)) none
-        by_held (Some held) none enough is = absurd (let z : ◌≡◌ {A = ℕ} 0 1 = cc in omega arith)
+        by_held (Some held) none enough is = cc
 
         rest : Decision (Unit {0})
         rest = opening_clean places counter (held_from 0 m.rows)
 
         go : (b : Bool) → is_short (length places) (length entries) ≡ b → (cond b short rest).answer ≡ Ok tt →
             Good (λ k. slice_get (values_of m) k) [] (state (cond b short rest))
-        go true is no' = absurd (let z : ◌≡◌ {A = ℕ} 0 1 = cc in omega arith)
+        go true is no' = cc
         go false is yes' = by_held (held_from 0 m.rows) refl is yes'
 
 -- ---- every history

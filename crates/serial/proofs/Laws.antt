@@ -44,7 +44,7 @@ entry_fault code places n p key fault is = by_tables (is_short (length places) n
     by_code false state is = only {A = Place} _ fault is refl
 
     by_test : (pl : Place) (b : Bool) → Kept (cond b (Ok pl) (Err (fault_of (state_refusal code) p key pl.state)))
-    by_test pl true is = absurd (let z : ◌≡◌ {A = ℕ} 0 1 = cc in omega arith)
+    by_test pl true is = cc
     by_test pl false is = by_code (eqb code 1) pl.state is
 
     by_nth : (o : Option Place) → Kept (by_state code p key o)
@@ -80,7 +80,7 @@ module _ {V : Type 0} where
     where
       go : (o : Option (Row V)) → raised 0 key (row-found o) ≡ Err fault → loses fault ≡ false
       go None is = only {A = Row V} _ fault is refl
-      go (Some row) is = absurd (let z : ◌≡◌ {A = ℕ} 0 1 = cc in omega arith)
+      go (Some row) is = cc
 
   -- A put or a free is refused by 4, 1, 6, 3 or 7.
   ending_fault : (m : Meaning V) (key p : ℕ) (pl : Place) (e : Entry V) (cause : Cause) → changed m key (ending p pl e) ≡ refuses cause → loses (fault_at p key cause) ≡ false
@@ -210,7 +210,7 @@ module _ {V : Type 0} where
       → Fine st call (record { event = e; store = new })
   accepts st new call e accepted reach single =
       record {
-        refusal = λ fault is. absurd (let r = ap is_refusal is in let z : ◌≡◌ {A = ℕ} 0 1 = cc in omega arith);
+        refusal = λ fault is. absurd (let r = ap is_refusal is in cc);
         reach = reach;
         single = single;
       }
@@ -370,7 +370,7 @@ module _ {V : Type 0} where
 
   none_past : (es : List (Entry V)) (c : ℕ) → slice_get es c ≡ None → length es ≤ c
   none_past [] c is = omega arith
-  none_past (e ∷ es) zero is = absurd (let z : ◌≡◌ {A = ℕ} 0 1 = cc in omega arith)
+  none_past (e ∷ es) zero is = cc
   none_past (e ∷ es) (suc c) is = let h = none_past es c is in omega arith
 
   module _ (st : Store V) (call : Call V) (pl : Place) (h : Here st call pl) where

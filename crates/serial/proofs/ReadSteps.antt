@@ -107,7 +107,7 @@ module _ {V : Type 0} where
                 let w = is_busy.writes k f is ∙ ap (λ b. cond b (Some f.value) None) unwritten in
                 record { fair = o.fair; begins = o.begins; ends = o.ends; value = o.value; sees = (o.sees, λ _. along_unwritten k (live p es).ops w (Some f.value) ∙ ap (λ (g : Entry V). Some g.value) (sym same)) };
             holds = λ u is. held_known row (old.holds u (ap is_some (sym (open_read k k e.value (live p es) none_handled)) ∙ is)) (ap is_some (sym (open_is_last k after none_handled)) ∙ is);
-            wins = λ v is. absurd (let d = (won_open k after v is).0 in let n = not_decided in let z : ◌≡◌ {A = ℕ} 0 1 = grind (arith, nat_tests) in omega arith);
+            wins = λ v is. absurd (let d = (won_open k after v is).0 in let n = not_decided in grind (arith, nat_tests));
           }
         where
           held_known : (row : Row V) → Rattle.serial.proofs.Invariant.HoldOk k row now_seat → is_some (last_write k (live p es).ops) ≡ true → Rattle.serial.proofs.Invariant.HoldOk k row (seat_in p here st.tables.entries after)
@@ -115,7 +115,7 @@ module _ {V : Type 0} where
             where
               written : (b : Bool) → e.written ≡ b → along k (Some row.value) (live p es).ops ≡ Some e.value
               written true w = along_written k (live p es).ops e.value (is_busy.writes k e known ∙ ap (λ c. cond c (Some e.value) None) w) row.value
-              written false w = absurd (let l = is_busy.writes k e known ∙ ap (λ c. cond c (Some e.value) None) w in let n = sym (ap is_some l) ∙ is in let z : ◌≡◌ {A = ℕ} 0 1 = cc in omega arith)
+              written false w = absurd (let l = is_busy.writes k e known ∙ ap (λ c. cond c (Some e.value) None) w in let n = sym (ap is_some l) ∙ is in cc)
 
       alike_known : (j : ℕ) → (j ≡ k → ⊥) → Alike j now_seat (seat_in p here st.tables.entries after)
       alike_known j apart =
@@ -127,7 +127,7 @@ module _ {V : Type 0} where
           (inv_moves x es st (did_read p k e.value) p here st.tables.entries after i (record { order = refl; grants = refl; put = refl; freed = refl }) at refl
           (moved st es (did_read p k e.value ∷ es) st.tables.home st.counter p here st.tables.entries after at i.many (same_entries p st.tables.entries) (same_place p after (live p es)) (λ q apart. other_place p q (doing (reads k e.value) (live q es)) (live q es) apart))
           (record {
-            seated = record { free = λ no'. absurd (let z : ◌≡◌ {A = ℕ} 0 1 = grind (arith, nat_tests) in omega arith); busy = λ _. busy_known };
+            seated = record { free = λ no'. grind (arith, nat_tests); busy = λ _. busy_known };
             stakes = λ j row won is ok. by_place (λ m. Stake m (x m) row (serial_order es) won p now_seat → Stake m (x m) row (serial_order es) won p (seat_in p here st.tables.entries after)) k j (stake_known row won) (λ apart old. stake_alike j (x j) row (serial_order es) won p now_seat (seat_in p here st.tables.entries after) (alike_known j apart) old) (ok.stakes p at);
             wins = λ j. ap (when (live p es).decided) (open_read j k e.value (live p es) none_handled);
             fresh = λ j is was. ap (among j) keys_known ∙ was;
@@ -170,7 +170,7 @@ module _ {V : Type 0} where
         where
           go : (o : Option V) → last_write k (live p es).ops ≡ o → last_write k (live p es).ops ≡ None
           go None is = is
-          go (Some v) is = absurd (let w = written_among k (live p es).ops v is in let n = not_among in let z : ◌≡◌ {A = ℕ} 0 1 = grind (arith, nat_tests) in omega arith)
+          go (Some v) is = absurd (let w = written_among k (live p es).ops v is in let n = not_among in grind (arith, nat_tests))
 
       busy_new : Busy new_seat
       busy_new =
@@ -209,8 +209,8 @@ module _ {V : Type 0} where
           record {
             owner = (ok.stakes p at).owner ∙ ap is_some (sym (open_read k k row.value (live p es) none_handled));
             seen = λ u e is no'. let same : entry ≡ e = cc (found_here) in subst (LeaseOk k (x k) row (serial_order es) new_seat) same (lease_new won ok);
-            holds = λ u is. absurd (let o = ap is_some (open_is_last k reader none_handled ∙ unwritten) in let z : ◌≡◌ {A = ℕ} 0 1 = cc in omega arith);
-            wins = λ v is. absurd (let d = (won_open k reader v is).0 in let n = not_decided in let z : ◌≡◌ {A = ℕ} 0 1 = grind (arith, nat_tests) in omega arith);
+            holds = λ u is. absurd (let o = ap is_some (open_is_last k reader none_handled ∙ unwritten) in cc);
+            wins = λ v is. absurd (let d = (won_open k reader v is).0 in let n = not_decided in grind (arith, nat_tests));
           }
 
       alike_new : (j : ℕ) → (j ≡ k → ⊥) → Alike j now_seat new_seat
@@ -221,7 +221,7 @@ module _ {V : Type 0} where
             undecided = λ u. u;
             entry = found_there j apart;
             later = omega arith;
-            same = λ d. absurd (let n = not_decided in let z : ◌≡◌ {A = ℕ} 0 1 = grind (arith, nat_tests) in omega arith);
+            same = λ d. absurd (let n = not_decided in grind (arith, nat_tests));
             sees = λ y s. sees_other j k row.value y (live p es).ops apart s;
           }
 
@@ -230,10 +230,10 @@ module _ {V : Type 0} where
           inv_moves x es st (did_read p k row.value) p place' entries' reader i (record { order = refl; grants = refl; put = refl; freed = refl }) at (length_put_entry st.tables.entries p (used_of here) entry)
           (moved st es (did_read p k row.value ∷ es) st.tables.home st.counter p place' entries' reader at i.many (λ q n is' apart few. sheet_other p q (used_of here) n st.tables.entries entry at is' apart room few) (same_place p reader (live p es)) (λ q apart. other_place p q (doing (reads k row.value) (live q es)) (live q es) apart))
           (record {
-            seated = record { free = λ no'. absurd (let z : ◌≡◌ {A = ℕ} 0 1 = grind (arith, nat_tests) in omega arith); busy = λ _. busy_new };
+            seated = record { free = λ no'. grind (arith, nat_tests); busy = λ _. busy_new };
             stakes = λ j r won here' ok. by_place (λ m. slice_get st.tables.home.rows m ≡ Some r → KeyOk m (x m) r (serial_order es) (seat_of st es) won → Stake m (x m) r (serial_order es) won p new_seat) k j (λ h ok. let same : row ≡ r = cc in subst (λ (o : Row V). KeyOk k (x k) o (serial_order es) (seat_of st es) won → Stake k (x k) o (serial_order es) won p new_seat) same (stake_new won) ok) (λ apart h ok. stake_alike j (x j) r (serial_order es) won p now_seat new_seat (alike_new j apart) (ok.stakes p at)) here' ok;
             wins = λ j. ap (when (live p es).decided) (open_read j k row.value (live p es) none_handled);
-            fresh = λ j none was. by_place (λ m. slice_get st.tables.home.rows m ≡ None → among m (keys_of (live p es).ops) ≡ false → among m (keys_of reader.ops) ≡ false) k j (λ gone was. absurd (let z : ◌≡◌ {A = ℕ} 0 1 = cc in omega arith)) (λ apart none was. among_noted j k (keys_of (live p es).ops) ∙ (grind (arith, nat_tests))) none was;
+            fresh = λ j none was. by_place (λ m. slice_get st.tables.home.rows m ≡ None → among m (keys_of (live p es).ops) ≡ false → among m (keys_of reader.ops) ≡ false) k j (λ gone was. cc) (λ apart none was. among_noted j k (keys_of (live p es).ops) ∙ (grind (arith, nat_tests))) none was;
           })
 
   -- ---- the whole call
@@ -243,7 +243,7 @@ module _ {V : Type 0} where
   looked_row m k row is = go (slice_get m.rows k) is
     where
       go : (o : Option (Row V)) → raised 0 k (Rattle.home.specs.Meaning.found o) ≡ Ok row → o ≡ Some row
-      go None is = absurd (let z : ◌≡◌ {A = ℕ} 0 1 = cc in omega arith)
+      go None is = cc
       go (Some r) is = let same : r ≡ row = cc in ap (λ (o : Row V). Some o) same
 
   module _ (x : ℕ → Option V) (es : List (Event V)) (st : Store V) (i : Inv x es st) (p k : ℕ) where

@@ -26,7 +26,7 @@ use Rattle.serial.proofs.Turns.{inv_lost, same_entries}
 use Rattle.serial.proofs.Changes.{free_won, inv_changes, with_row}
 
 nth_low : {A : Type 0} (xs : List A) (j : ℕ) (a : A) → slice_get xs j ≡ Some a → j < length xs
-nth_low [] j a is = absurd (let z : ◌≡◌ {A = ℕ} 0 1 = cc in omega arith)
+nth_low [] j a is = cc
 nth_low (b ∷ xs) zero a is = omega arith
 nth_low (b ∷ xs) (suc j) a is = let h = nth_low xs j a is in omega arith
 
@@ -71,8 +71,8 @@ module _ {V : Type 0} where
               let o = old.owner ∙ is in
               let f = r.free in
               let g = place_range q at in
-              absurd (let z : ◌≡◌ {A = ℕ} 0 1 = grind (arith, nat_tests) in omega arith);
-          wins = λ v is. absurd (let w = old.wins v is in let z : ◌≡◌ {A = ℕ} 0 1 = cc in omega arith);
+              grind (arith, nat_tests);
+          wins = λ v is. absurd (let w = old.wins v is in cc);
         }
 
     stake_other : (q : ℕ) → is_place q ≡ true → (s : Seat V) → Stake k x row us None q s → Stake k x new us None q s
@@ -91,7 +91,7 @@ module _ {V : Type 0} where
           quiet = All-weaker _ _ (λ t h past. h (let b = r.longer in omega arith)) us old.quiet;
           sees = old.sees;
           above = tt;
-          winner = λ w is. absurd (let z : ◌≡◌ {A = ℕ} 0 1 = cc in omega arith);
+          winner = λ w is. cc;
           stakes = λ q at'. by_place (λ o. is_place o ≡ true → Stake k x new us None o (next o)) p q
               (λ _. subst (Stake k x new us None p) (sym m.here) stake)
               (λ apart there. subst (Stake k x new us None q) (sym (m.others q there apart)) (stake_other q there (seats q) (old.stakes q there)))
@@ -134,7 +134,7 @@ module _ {V : Type 0} where
     seated_onward frozen sh e limited low is reaches sized keys others writes =
         let b = busy frozen in
         record {
-          free = λ no'. absurd (let z : ◌≡◌ {A = ℕ} 0 1 = grind (arith, nat_tests) in omega arith);
+          free = λ no'. grind (arith, nat_tests);
           busy = λ _. record {
             few = b.few;
             within = omega arith;

@@ -141,7 +141,7 @@ module _ {V : Type 0} where
     where
       by_case : (b : Bool) → cond b (Some v) (last_write k os) ≡ None → (last_write k os ≡ None → along k y os ≡ y) →
           cond b (over (along k y os) v) (along k y os) ≡ y
-      by_case true n rest = absurd (let z : ◌≡◌ {A = ℕ} 0 1 = cc in omega arith)
+      by_case true n rest = cc
       by_case false n rest = rest n
 
   -- A key that is there stays there.
@@ -156,7 +156,7 @@ module _ {V : Type 0} where
       by_case false first second = second
 
   pub along_written : (k : ℕ) (os : List (Op V)) (v : V) → last_write k os ≡ Some v → (y : V) → along k (Some y) os ≡ Some v
-  along_written k [] v some y = absurd (let z : ◌≡◌ {A = ℕ} 0 1 = cc in omega arith)
+  along_written k [] v some y = cc
   along_written k (reads j w ∷ os) v some y = along_written k os v some y
   along_written k (writes j w ∷ os) v some y = by_case (eqb j k) some (λ s. along_written k os v s y)
     where
@@ -166,7 +166,7 @@ module _ {V : Type 0} where
       by_case false s rest = rest s
 
   pub written_among : (k : ℕ) (os : List (Op V)) (v : V) → last_write k os ≡ Some v → among k (keys_of os) ≡ true
-  written_among k [] v some = absurd (let z : ◌≡◌ {A = ℕ} 0 1 = cc in omega arith)
+  written_among k [] v some = cc
   written_among k (reads j w ∷ os) v some = among_noted k j (keys_of os) ∙ (let ih = written_among k os v some in grind (arith, nat_tests))
   written_among k (writes j w ∷ os) v some = among_noted k j (keys_of os) ∙ by_case (eqb j k) some (written_among k os v)
     where

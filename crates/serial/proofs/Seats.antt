@@ -35,16 +35,16 @@ pub record Entered (code : ℕ) (places : List Place) (n p : ℕ) (pl : Place) :
 
 -- a test that lets nothing through where it holds, and one that lets nothing through where it fails
 passed_by : {A E : Type 0} (b : Bool) (f : E) (r : Result A E) (x : A) → cond b (Err f) r ≡ Ok x → (b ≡ false) × (r ≡ Ok x)
-passed_by true f r x is = absurd (let z : ◌≡◌ {A = ℕ} 0 1 = cc in omega arith)
+passed_by true f r x is = cc
 passed_by false f r x is = (refl, is)
 
 let_in : {A E : Type 0} (b : Bool) (f : E) (r : Result A E) (x : A) → cond b r (Err f) ≡ Ok x → (b ≡ true) × (r ≡ Ok x)
 let_in true f r x is = (refl, is)
-let_in false f r x is = absurd (let z : ◌≡◌ {A = ℕ} 0 1 = cc in omega arith)
+let_in false f r x is = cc
 
 by_state_ok : (code place key : ℕ) (o : Option Place) (pl : Place) → by_state code place key o ≡ Ok pl
     → (o ≡ Some pl) × (admits code pl.state ≡ true)
-by_state_ok code place key None pl is = absurd (let z : ◌≡◌ {A = ℕ} 0 1 = cc in omega arith)
+by_state_ok code place key None pl is = cc
 by_state_ok code place key (Some p) pl is =
     let h = let_in (admits code p.state) _ (Ok p) pl is in
     let same : p ≡ pl = cc in

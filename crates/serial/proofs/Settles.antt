@@ -24,7 +24,7 @@ use Rattle.serial.proofs.Changes.{held_one, holds_none, inv_changes, loser_won, 
 use Rattle.serial.proofs.Turns.{same_entries}
 
 pub nth_below : {A : Type 0} (xs : List A) (c : ℕ) (a : A) → slice_get xs c ≡ Some a → c < length xs
-nth_below [] c a is = absurd (let z : ◌≡◌ {A = ℕ} 0 1 = cc in omega arith)
+nth_below [] c a is = cc
 nth_below (y ∷ xs) zero a is = omega arith
 nth_below (y ∷ xs) (suc c) a is = let h = nth_below xs c a is in omega arith
 
@@ -122,7 +122,7 @@ module _ {V : Type 0} where
           quiet = r.quiet;
           sees = old.sees;
           above = tt;
-          winner = λ w is. absurd (let z : ◌≡◌ {A = ℕ} 0 1 = cc in omega arith);
+          winner = λ w is. cc;
           stakes = λ q is. by_place (λ r. is_place r ≡ true → Stake k x new us None r (next r)) p q
               (λ _. subst (Stake k x new us None p) (sym m.here) here)
               (λ apart is. subst (Stake k x new us None q) (sym (m.others q is apart)) (there q is apart)) is;
@@ -133,13 +133,13 @@ module _ {V : Type 0} where
         nobody q is = let range = place_range q is in let none = r.free in grind (arith, nat_tests)
 
         not_won : (l : Live V) → is_some (pending_write k l) ≡ false → (v : V) → unsettled_write k l ≡ Some v → ⊥
-        not_won l none v is = let o = ap (λ (a : Option V). is_some a) (won_open k l v is).1 in let z : ◌≡◌ {A = ℕ} 0 1 = cc in omega arith
+        not_won l none v is = let o = ap (λ (a : Option V). is_some a) (won_open k l v is).1 in cc
 
         here : Stake k x new us None p n
         here = record {
           owner = nobody p at ∙ sym (ap (λ (a : Option V). is_some a) closed);
-          seen = λ u e is unwritten. absurd (let z : ◌≡◌ {A = ℕ} 0 1 = cc in omega arith);
-          holds = λ u is. absurd (let z : ◌≡◌ {A = ℕ} 0 1 = cc in omega arith);
+          seen = λ u e is unwritten. cc;
+          holds = λ u is. cc;
           wins = λ v is. absurd (not_won n.live (ap (λ (a : Option V). is_some a) closed) v is);
         }
 
@@ -151,7 +151,7 @@ module _ {V : Type 0} where
               seen = λ u e is' unwritten.
                   let o = (old.stakes q is).seen u e is' unwritten in
                   record { fair = o.fair; begins = o.begins; ends = (let h = o.ends in let l = r.later in omega arith); value = o.value; sees = o.sees };
-              holds = λ u is'. absurd (let z : ◌≡◌ {A = ℕ} 0 1 = cc in omega arith);
+              holds = λ u is'. cc;
               wins = λ v is'. absurd (not_won (seats q).live none v is');
             }
 
@@ -199,12 +199,12 @@ module _ {V : Type 0} where
           (moved st es (did_settle p 0 true ∷ es) st.tables.home st.counter p (freed here) entries nothing_done at i.many (same_entries p entries)
           (same_place p nothing_done now) (λ q apart. other_place p q nothing_done (live q es) apart))
           (record {
-            seated = record { free = λ _. refl; busy = λ yes'. absurd (let z : ◌≡◌ {A = ℕ} 0 1 = cc in omega arith) };
+            seated = record { free = λ _. refl; busy = λ yes'. cc };
             stakes = λ k row won is' ok. record {
               owner = (ok.stakes p at).owner ∙ ap (λ (a : Option V). is_some a) (closed is k);
-              seen = λ u e is'' unwritten. absurd (let z : ◌≡◌ {A = ℕ} 0 1 = cc in omega arith);
-              holds = λ u is''. absurd (let z : ◌≡◌ {A = ℕ} 0 1 = cc in omega arith);
-              wins = λ v is''. absurd (let z : ◌≡◌ {A = ℕ} 0 1 = cc in omega arith);
+              seen = λ u e is'' unwritten. cc;
+              holds = λ u is''. cc;
+              wins = λ v is''. cc;
             };
             wins = λ k. sym (not_won is k);
             fresh = λ k is' was. refl;
@@ -230,7 +230,7 @@ module _ {V : Type 0} where
 
         seated_onward : Seated (seat_in p (onward here) entries then_live)
         seated_onward = record {
-          free = λ no'. absurd (let z : ◌≡◌ {A = ℕ} 0 1 = grind (arith, nat_tests) in omega arith);
+          free = λ no'. grind (arith, nat_tests);
           busy = λ _.
               let b = busy in
               let low = nth_below (sheet p (used_of here) entries) (cursor_of here) e is in
@@ -244,7 +244,7 @@ module _ {V : Type 0} where
                 writes = b.writes;
                 decided = b.decided;
                 handled = grind (arith, nat_tests);
-                passed = λ frozen j e' below is' unwritten. absurd (let z : ◌≡◌ {A = ℕ} 0 1 = grind (arith, nat_tests) in omega arith);
+                passed = λ frozen j e' below is' unwritten. grind (arith, nat_tests);
               };
         }
 

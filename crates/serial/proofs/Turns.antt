@@ -47,7 +47,7 @@ module _ {V : Type 0} where
         (alike_ok x es st p n at
         (λ k. record { write = refl; decided = refl; undecided = λ _. was; entry = refl; later = omega arith; same = λ _. refl; sees = λ y h. h })
         (λ k. refl)
-        (record { free = λ no'. absurd (let z : ◌≡◌ {A = ℕ} 0 1 = grind (arith, nat_tests) in omega arith); busy = λ _. busy_turned s range was ((i.seated p at).busy (grind (arith, nat_tests))) }))
+        (record { free = λ no'. grind (arith, nat_tests); busy = λ _. busy_turned s range was ((i.seated p at).busy (grind (arith, nat_tests))) }))
       where
         n : Seat V
         n = seat_in p (moved_to s here) st.tables.entries (live p es)
@@ -109,7 +109,7 @@ module _ {V : Type 0} where
         step r = by_turn st (Call.Begin p) (λ _. did_begin p) (turning st.tables.places p (λ pl. (tt {0}, fresh)) r)
 
         none : (k : ℕ) (e : Entry V) → found k (sheet p 0 st.tables.entries) ≡ Some e → ⊥
-        none k e is = let h = sym (ap (found k) (sheet_none p st.tables.entries)) ∙ is in let z : ◌≡◌ {A = ℕ} 0 1 = cc in omega arith
+        none k e is = let h = sym (ap (found k) (sheet_none p st.tables.entries)) ∙ is in cc
 
         begun : is_place p ≡ true → (place_at st.tables.places p).state ≡ 0 → Inv x (did_begin p ∷ es) (moved_state st st.tables.home st.counter p fresh st.tables.entries)
         begun at was =
@@ -119,7 +119,7 @@ module _ {V : Type 0} where
             (moved st es (did_begin p ∷ es) st.tables.home st.counter p fresh st.tables.entries nothing_done at i.many (same_entries p st.tables.entries) (same_place p nothing_done (live p es)) (λ q apart. other_place p q nothing_done (live q es) apart))
             (record {
               seated = record {
-                free = λ no'. absurd (let z : ◌≡◌ {A = ℕ} 0 1 = cc in omega arith);
+                free = λ no'. cc;
                 busy = λ _. record {
                   few = omega arith;
                   within = omega arith;
@@ -134,8 +134,8 @@ module _ {V : Type 0} where
               stakes = λ k row won is ok. record {
                 owner = (ok.stakes p at).owner ∙ ap (λ (l : Live V). is_some (pending_write k l)) was_idle;
                 seen = λ u e is' unwritten. absurd (none k e is');
-                holds = λ u is'. absurd (let z : ◌≡◌ {A = ℕ} 0 1 = cc in omega arith);
-                wins = λ v is'. absurd (let z : ◌≡◌ {A = ℕ} 0 1 = cc in omega arith);
+                holds = λ u is'. cc;
+                wins = λ v is'. cc;
               };
               wins = λ k. ap (λ (l : Live V). unsettled_write k l) (sym was_idle);
               fresh = λ k is was'. refl;

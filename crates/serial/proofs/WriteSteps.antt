@@ -32,7 +32,7 @@ never_written {V} k os none = go (last_write k os) refl
   where
     go : (o : Option V) → last_write k os ≡ o → last_write k os ≡ None
     go None is = is
-    go (Some v) is = absurd (let w = written_among k os v is in let z : ◌≡◌ {A = ℕ} 0 1 = cc in omega arith)
+    go (Some v) is = absurd (let w = written_among k os v is in cc)
 
 -- A key is among the others as before, once one more is noted.
 among_other : (j k : ℕ) (ks : List ℕ) → (j ≡ k → ⊥) → among j (noted k ks) ≡ among j ks
@@ -48,9 +48,9 @@ module _ {V : Type 0} where
       held = record { value = row.value; wts = row.wts; rts = row.rts; holder = p }
 
       go : (a : Bool) → eqb row.holder 0 ≡ a → (b : Bool) → cond a (cond b (because TimeSpent 0) (grants held)) (because Held row.holder) ≡ grants new → (row.holder ≡ 0) × (new ≡ held)
-      go true free true is = absurd (let z : ◌≡◌ {A = ℕ} 0 1 = cc in omega arith)
+      go true free true is = cc
       go true free false is = (grind (arith, nat_tests), cc)
-      go false taken b is = absurd (let z : ◌≡◌ {A = ℕ} 0 1 = cc in omega arith)
+      go false taken b is = cc
 
   -- ---- writes of one key, for another
 
@@ -80,7 +80,7 @@ module _ {V : Type 0} where
 
     -- An undecided transaction has won nothing.
     never_won : (k : ℕ) (v v' : V) → unsettled_write k (doing (writes k v) (live p es)) ≡ Some v' → ⊥
-    never_won k v v' is = let d = (won_open k (doing (writes k v) (live p es)) v' is).0 in let n = undone in let z : ◌≡◌ {A = ℕ} 0 1 = grind (arith, nat_tests) in omega arith
+    never_won k v v' is = let d = (won_open k (doing (writes k v) (live p es)) v' is).0 in let n = undone in grind (arith, nat_tests)
 
     -- What the writes of the sheet are after a write.
     writes_after : (k : ℕ) (v : V) (sh : List (Entry V)) (e : Entry V) → write_of e ≡ Some v → found k sh ≡ Some e → ((j : ℕ) → (j ≡ k → ⊥) → found j sh ≡ found j now_seat.sheet) → (j : ℕ) (f : Entry V) → found j sh ≡ Some f → last_write j (writes k v ∷ (live p es).ops) ≡ write_of f
@@ -141,7 +141,7 @@ module _ {V : Type 0} where
         stake_here won ok =
             record {
               owner = (let yes' : eqb p p ≡ true = grind (arith, nat_tests) in yes' ∙ ap is_some (sym (open_here k v (live p es) unhandled)));
-              seen = λ u e is no'. absurd (let f = t.first in let same : entry ≡ e = cc in let w = ap (λ (o : Entry V). o.written) same in let z : ◌≡◌ {A = ℕ} 0 1 = cc in omega arith);
+              seen = λ u e is no'. absurd (let f = t.first in let same : entry ≡ e = cc in let w = ap (λ (o : Entry V). o.written) same in cc);
               holds = λ u is. record { above = omega arith; sees = t.sees won ok };
               wins = λ v' is. absurd (never_won k v v' is);
             }
@@ -155,8 +155,8 @@ module _ {V : Type 0} where
             record {
               owner = nobody ∙ sym none;
               seen = λ u e is no'. let o = old.seen u e is no' in record { fair = o.fair; begins = o.begins; ends = o.ends; value = o.value; sees = o.sees };
-              holds = λ u some. absurd (let z : ◌≡◌ {A = ℕ} 0 1 = cc in omega arith);
-              wins = λ v' win. absurd (let o = ap is_some (won_open k (live q es) v' win).1 in let z : ◌≡◌ {A = ℕ} 0 1 = cc in omega arith);
+              holds = λ u some. cc;
+              wins = λ v' win. absurd (let o = ap is_some (won_open k (live q es) v' win).1 in cc);
             }
 
         abbrev after : Store V
@@ -177,7 +177,7 @@ module _ {V : Type 0} where
               quiet = subst (λ (w : Option (V × ℕ)). Rattle.std.specs.List.AllByRecursion (λ (u : Transaction V). Rattle.serial.proofs.Invariant.bound w row < u.ts → among k (keys_of u.ops) ≡ false) (serial_order es)) none ok.quiet;
               sees = ok.sees;
               above = tt;
-              winner = λ w is. absurd (let z : ◌≡◌ {A = ℕ} 0 1 = cc in omega arith);
+              winner = λ w is. cc;
               holder = inr at;
               stakes = λ q at_q. by_place (λ r. is_place r ≡ true → Stake k (x k) held_row (serial_order es) None r (seat_of after (event ∷ es) r)) p q (λ _. subst (Stake k (x k) held_row (serial_order es) None p) (sym moves.here) (stake_here won ok)) (λ apart at_q. subst (Stake k (x k) held_row (serial_order es) None q) (sym (moves.others q at_q apart)) (stake_there won ok q at_q apart)) at_q;
             }
@@ -191,7 +191,7 @@ module _ {V : Type 0} where
               long = length_put_entry st.tables.entries p at' entry;
               was = is;
               moves = moves;
-              seated = record { free = λ no'. absurd (let z : ◌≡◌ {A = ℕ} 0 1 = grind (arith, nat_tests) in omega arith); busy = λ _. busy_held };
+              seated = record { free = λ no'. grind (arith, nat_tests); busy = λ _. busy_held };
               key = λ won ok. (None, key_held won ok);
               others = λ j apart. record {
                 write = open_other j k v (live p es) unhandled apart;
@@ -199,7 +199,7 @@ module _ {V : Type 0} where
                 undecided = λ u. u;
                 entry = t.others j apart;
                 later = omega arith;
-                same = λ d. absurd (let n = undone in let z : ◌≡◌ {A = ℕ} 0 1 = grind (arith, nat_tests) in omega arith);
+                same = λ d. absurd (let n = undone in grind (arith, nat_tests));
                 sees = λ y s. s;
               };
               fresh = λ j apart. among_other j k (keys_of (live p es).ops) apart;
@@ -342,7 +342,7 @@ module _ {V : Type 0} where
             let was : is_some (pending_write k (live p es)) ≡ true = ap is_some (open_is_last k (live p es) unhandled ∙ last_known) in
             record {
               owner = old.owner ∙ was ∙ ap is_some (sym (open_here k v (live p es) unhandled));
-              seen = λ u f is no'. absurd (let h = first_again in let same : rewritten ≡ f = cc in let w = ap (λ (o : Entry V). o.written) same in let z : ◌≡◌ {A = ℕ} 0 1 = cc in omega arith);
+              seen = λ u f is no'. absurd (let h = first_again in let same : rewritten ≡ f = cc in let w = ap (λ (o : Entry V). o.written) same in cc);
               holds = λ u is. let o = old.holds u was in record { above = o.above; sees = o.sees };
               wins = λ v' is. absurd (never_won k v v' is);
             }
@@ -359,7 +359,7 @@ module _ {V : Type 0} where
             at (length_put_entry st.tables.entries p n rewritten)
             (moved st es (did_write p k v here.ts ∷ es) st.tables.home st.counter p here again_entries again at i.many (λ q m is' apart few. sheet_other p q n m st.tables.entries rewritten at is' apart (room_known rewritten at_key.1) few) (same_place p again (live p es)) (λ q apart. other_place p q (doing (writes k v) (live q es)) (live q es) apart))
             (record {
-              seated = record { free = λ no'. absurd (let z : ◌≡◌ {A = ℕ} 0 1 = grind (arith, nat_tests) in omega arith); busy = λ _. busy_again };
+              seated = record { free = λ no'. grind (arith, nat_tests); busy = λ _. busy_again };
               stakes = λ j row won is ok. by_place (λ m. Stake m (x m) row (serial_order es) won p now_seat → Stake m (x m) row (serial_order es) won p again_seat) k j (stake_again row won) (λ apart old. stake_alike j (x j) row (serial_order es) won p now_seat again_seat (alike_again j apart) old) (ok.stakes p at);
               wins = λ j. ap (λ b. when b (pending_write j again)) undone ∙ sym (no_win x es st p i at open' j);
               fresh = λ j is was. ap (among j) (known_keys k (keys_of (live p es).ops) among_known) ∙ was;
@@ -377,8 +377,8 @@ module _ {V : Type 0} where
     where
       go : (a : Bool) → a ≡ true → (b : Bool) → eqb row.wts wts ≡ b → cond (a && not b) (Some row.wts) None ≡ None → row.wts ≡ wts
       go true yes' true same is = grind (arith, nat_tests)
-      go true yes' false other is = absurd (let z : ◌≡◌ {A = ℕ} 0 1 = cc in omega arith)
-      go false yes' b same is = absurd (let z : ◌≡◌ {A = ℕ} 0 1 = cc in omega arith)
+      go true yes' false other is = cc
+      go false yes' b same is = cc
 
   module _ (x : ℕ → Option V) (es : List (Event V)) (st : Store V) (i : Inv x es st) (p k : ℕ) (v : V) where
     abbrev step : Did V ℕ → Step V
