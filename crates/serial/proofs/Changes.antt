@@ -98,14 +98,14 @@ module _ {V : Type 0} where
     inv_changes i at ok =
         record {
           many = (let h = i.many in let g = length_put_place st.tables.places p pl in omega arith);
-          long = (let h = i.long in let g = ok.long in omega arith);
+          long = (let h = i.long in omega arith);
           seated = seated_moves es (e ∷ es) st next_state p here_seat i.seated ok.moves ok.seated;
           keys = λ j r is. subst (λ us. (won : Option (V × ℕ)) × KeyOk j (x j) r us (seat_of next_state (e ∷ es)) won) (sym ok.order) (each j r is);
           voids = λ j is. subst (λ us. VoidOk j (x j) us (seat_of next_state (e ∷ es))) (sym ok.order) (none j is);
           sorted = subst Sorted (sym ok.order) i.sorted;
           numbered = subst (All (λ (t : Transaction V). t.number ≤ st.counter)) (sym ok.order) i.numbered;
           limit = i.limit;
-          holds = (let h = i.holds in let c = ok.count in let s = held_set st.tables.home.rows k row new ok.was in omega arith);
+          holds = (let s = held_set st.tables.home.rows k row new ok.was in omega arith);
         }
       where
         here : (r : Row V) → slice_get (set st.tables.home.rows k new) k ≡ Some r → (won : Option (V × ℕ)) × KeyOk k (x k) r (serial_order es) (seat_of next_state (e ∷ es)) won

@@ -40,7 +40,7 @@ module _ {V : Type 0} where
       go : (b : Bool) → cond b (Some a) (found k es) ≡ Some e → (found k es ≡ Some e → (i : ℕ) × (slice_get es i ≡ Some e) × (i < length es))
           → (i : ℕ) × (slice_get (a ∷ es) i ≡ Some e) × (i < length (a ∷ es))
       go true at ih = (zero, at, omega arith)
-      go false at ih = let r = ih at in let low = r.2 in (suc r.0, r.1, omega arith)
+      go false at ih = let r = ih at in (suc r.0, r.1, omega arith)
 
   -- A seat keeps its stake where the run stays as it was up to the end of the lease.
   stake_grows : (k : ℕ) (x : Option V) (row : Row V) (us new : List (Transaction V)) (won after : Option (V × ℕ)) (q : ℕ) (s : Seat V)
@@ -56,7 +56,7 @@ module _ {V : Type 0} where
               fair = o.fair;
               begins = o.begins;
               ends = o.ends;
-              value = λ τ low high. same τ (let h = o.ends in omega arith) ∙ o.value τ low high;
+              value = λ τ low high. same τ (omega arith) ∙ o.value τ low high;
               sees = o.sees;
             };
         holds = old.holds;
@@ -66,10 +66,10 @@ module _ {V : Type 0} where
   -- What a frozen place decides on.
   module _ (s : Seat V) (b : Busy s) (frozen : s.place.state ≡ 2) where
     unsettled_yet : s.live.handled ≡ 0
-    unsettled_yet = let h = b.handled in grind (arith, nat_tests)
+    unsettled_yet = grind (arith, nat_tests)
 
     not_decided : s.live.decided ≡ false
-    not_decided = let h = b.decided in grind (arith, nat_tests)
+    not_decided = grind (arith, nat_tests)
 
     is_undecided : undecided s.place ≡ true
     is_undecided = grind (arith, nat_tests)
@@ -162,13 +162,11 @@ module _ {V : Type 0} where
         let stands = lease.value it.ts lease.begins reaches in
         key_left (along_unwritten k it.ops none) (open_unwritten (seats p) b frozen k none)
         (subst (λ (o : Option V). Sees k o it.ops) (sym stands) lease.sees)
-        (λ late. absurd (let high = bounded won old.above in let ends = lease.ends in let r = reaches in omega arith))
+        (λ late. absurd (let high = bounded won old.above in let r = reaches in omega arith))
       where
         reaches : it.ts ≤ e.rts
         reaches =
             let r = found_nth k (seats p).sheet e is in
-            let low = r.2 in
-            let size = b.sized in
             b.passed frozen r.0 e (omega arith) r.1 unwritten
 
         bounded : (o : Option (V × ℕ)) → ahead o row → row.rts ≤ bound o row
@@ -191,7 +189,7 @@ module _ {V : Type 0} where
               (λ apart here.
               subst (Stake k x row (insert it us) (Some (v, it.ts)) q) (sym (m.others q here apart))
               (stake_grows k x row us (insert it us) won (Some (v, it.ts)) q (seats q)
-              (λ τ low. write_before k x τ it us (let a = above in omega arith))
+              (λ τ low. write_before k x τ it us (omega (arith, above)))
               (λ w is'. absurd (apart (sym (holds_it k x row us seats won old q here (ap is_some (won_open k (seats q).live w is').1)) ∙ mine)))
               (old.stakes q here)))
               here;
@@ -217,12 +215,12 @@ module _ {V : Type 0} where
         before_it τ low = old.stands τ low ∙ ap (λ (o : Option (V × ℕ)). Some (standing o row τ)) none
 
         stood : value_upto k x it.ts us ≡ Some row.value
-        stood = before_it it.ts (let a = above in let f = old.fair in omega arith)
+        stood = before_it it.ts (omega (arith, above, old.fair))
 
         skips : AfterSkip k it us
         skips =
             All-weaker (Skips won) (Skips (Some (v, it.ts)))
-            (λ t h late. h (let n = ap (λ (o : Option (V × ℕ)). bound o row) none in let a = above in omega arith)) us old.quiet
+            (λ t h late. h (omega (arith, above, ap (λ (o : Option (V × ℕ)). bound o row) none))) us old.quiet
 
         by_time : (τ : ℕ) → row.wts ≤ τ → (c : Bool) → leb it.ts τ ≡ c → value_upto k x τ (insert it us) ≡ Some (cond c v row.value)
         by_time τ low true test =
@@ -288,12 +286,12 @@ module _ {V : Type 0} where
 
       -- the counter was within its limit, so that its number is above all
       counts : count_of st.counter ≡ st.counter
-      counts = let l = i.limit in omega arith
+      counts = omega arith
 
       newest : Newest (commit_of number seat) (serial_order es)
       newest =
           All-weaker (λ (t : Transaction V). t.number ≤ st.counter) (λ (t : Transaction V). t.number < number)
-          (λ t h. let c = counts in omega arith) (serial_order es) i.numbered
+          (λ t h. omega arith) (serial_order es) i.numbered
 
       seated_decided : Seated (decided_seat seat)
       seated_decided =
@@ -320,7 +318,7 @@ module _ {V : Type 0} where
             keys = λ k row is.
                 let old = i.keys k row is in
                 key_decides k (x k) row (serial_order es) (seat_of st es) next_seats old.0 p number at moves busy frozen
-                (let f = busy.few in omega arith) (ordered (serial_order es) i.sorted) newest old.1;
+                (omega (arith, busy)) (ordered (serial_order es) i.sorted) newest old.1;
             voids = λ k is.
                 let old = i.voids k is in
                 let none = old.fresh p at in
@@ -333,7 +331,7 @@ module _ {V : Type 0} where
                 all_insert (λ (t : Transaction V). t.number ≤ number) (commit_of number seat) (serial_order es) (omega arith)
                 (All-weaker (λ (t : Transaction V). t.number < number) (λ (t : Transaction V). t.number ≤ number)
                 (λ t h. omega arith) (serial_order es) newest);
-            limit = (let l = i.limit in let d : (count_of st.counter ≡ 999999 → ⊥) = grind (arith, nat_tests) in omega arith);
+            limit = (let d : (count_of st.counter ≡ 999999 → ⊥) = grind (arith, nat_tests) in omega arith);
             holds = i.holds;
           }
 
@@ -371,7 +369,6 @@ module _ {V : Type 0} where
         go (Ok pl) is =
             let en = entered_ok 6 st.tables.places (length st.tables.entries) p 0 pl is in
             let same = ap (λ (o : Place). o.state) en.here in
-            let ok = en.admitted in
             let frozen : here.state ≡ 2 = grind (arith, nat_tests) in
             subst (λ (o : Place). Kept (deciding st.tables.places st.counter p o)) en.here
             (by_tests en.place frozen (ltb (cursor_of here) (used_of here)) (eqb (count_of st.counter) 999999) refl refl)

@@ -164,7 +164,7 @@ module _ {V : Type 0} where
       go false is = cc
 
   pub won_alike : (k : ℕ) (s n : Seat V) → Alike k s n → unsettled_write k n.live ≡ unsettled_write k s.live
-  won_alike k s n a = let d = a.decided in let w = a.write in cc
+  won_alike k s n a = cc
 
   pub stake_alike : (k : ℕ) (x : Option V) (row : Row V) (us : List (Transaction V)) (won : Option (V × ℕ)) (p : ℕ) (s n : Seat V) → Alike k s n → Stake k x row us won p s → Stake k x row us won p n
   stake_alike k x row us won p s n a old =
@@ -175,7 +175,7 @@ module _ {V : Type 0} where
             record { fair = o.fair; begins = (let b = o.begins in let l = a.later in omega arith); ends = o.ends; value = o.value; sees = a.sees _ o.sees };
         holds = λ u is.
             let o = old.holds (a.undecided u) (sym (ap is_some a.write) ∙ is) in
-            record { above = (let b = o.above in let l = a.later in omega arith); sees = a.sees _ o.sees };
+            record { above = (omega arith); sees = a.sees _ o.sees };
         wins = λ v is.
             let was = sym (won_alike k s n a) ∙ is in
             let t = a.same (won_decided k s.live v was) in

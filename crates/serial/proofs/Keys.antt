@@ -35,7 +35,6 @@ pub apart_push : (ks : List ℕ) (j : ℕ) → Apart ks → among j ks ≡ false
 apart_push [] j apart new = (refl, tt)
 apart_push (k ∷ ks) j apart new =
     let push = among_push k ks j in
-    let first = apart.0 in
     let other : among j ks ≡ false = grind (arith, nat_tests) in
     let still : among k (ks ++ (j ∷ [])) ≡ false = grind (arith, nat_tests) in
     (still, apart_push ks j apart.1 other)
@@ -110,8 +109,6 @@ module _ {V : Type 0} where
           }
       go false test at ih =
           let r = ih at in
-          let past = r.from in
-          let low = r.within in
           let next : i - n ≡ suc (i - (n + 1)) = omega arith in
           record {
             from = omega arith;
@@ -126,7 +123,6 @@ module _ {V : Type 0} where
   sought_found k es i e is =
       let r = sought_some k 0 es i e is in
       let same : i ≡ i - 0 = omega arith in
-      let low = r.within in
       (ap (slice_get es) same ∙ r.here, r.key, r.first, omega arith)
 
   pub sought_none : (k n : ℕ) (es : List (Entry V)) → sought k n es ≡ None → found k es ≡ None
@@ -204,7 +200,6 @@ module _ {V : Type 0} where
   behind : (a : Entry V) (es : List (Entry V)) (c : ℕ) (e : Entry V) → Apart (keyed (a ∷ es)) → slice_get es c ≡ Some e → eqb a.key e.key ≡ false
   behind a es c e apart at =
       let has = nth_among (keyed es) c e.key (nth_keyed es c e at) in
-      let first = apart.0 in
       grind (arith, nat_tests)
 
   pub nth_found : (es : List (Entry V)) (c : ℕ) (e : Entry V) → Apart (keyed es) → slice_get es c ≡ Some e → found e.key es ≡ Some e

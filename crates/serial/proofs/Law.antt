@@ -50,10 +50,7 @@ module _ {V : Type 0} (f : ℕ → Option V) where
     where
       go : (o : Option V) → f (suc n) ≡ o → (p ≤ n → first_of f n ≡ Some v) → or_else o (first_of f n) ≡ Some v
       go (Some w) here rest = ap (λ (u : V). Some u) (only (suc n) w (omega arith) (omega arith) here)
-      go None here rest = rest (let other = apart in omega arith)
-        where
-          apart : p ≡ suc n → ⊥
-          apart same = let there = ap f same in cc
+      go None here rest = rest (let apart : (p ≡ suc n → ⊥) = λ same. cc in omega arith)
 
 -- ---- transactions that leave a key alone
 
@@ -228,7 +225,6 @@ module _ {V : Type 0} where
   free_count key [] none = refl
   free_count key (r ∷ rows) none =
       let h = free_first key r rows none in
-      let first = h.0 in
       let ih = free_count (key + 1) rows h.1 in
       grind (arith, nat_tests)
 
@@ -240,7 +236,6 @@ module _ {V : Type 0} where
         Stake k (slice_get (values_of m) k) row [] None p (seat_of clean [] p)
     free_stake k p row many at free =
         let r = place_range p at in
-        let low = r.0 in
         let none = freed_place places p many at in
         record {
           owner = grind (arith, nat_tests);

@@ -232,7 +232,6 @@ module _ {V : Type 0} where
     let_in code key pl is =
         let en = entered_ok code st.tables.places (length st.tables.entries) (place_of call) key pl is in
         let r = place_range (place_of call) en.place in
-        let many = en.many in
         let low : place_of call - 1 < length st.tables.places = omega arith in
         record {
           place = en.place;
@@ -357,9 +356,8 @@ module _ {V : Type 0} where
 
       write_sheet : (o : Option (ℕ × Entry V)) → sought key 0 (sheet p (used_of pl) st.tables.entries) ≡ o → WriteFine (writing st.tables p key value pl o)
       write_sheet (Some found) is =
-          let low = (sought_found key _ found.0 found.1 is).3 in
           let size = sheet_length p (used_of pl) st.tables.entries h.place (omega arith) h.long in
-          write_known found.0 found.1 (omega arith) found.1.written
+          write_known found.0 found.1 (omega (arith, sought_found key _ found.0 found.1 is)) found.1.written
       write_sheet None is = write_new _ refl
 
     fine_write : Fine st (Call.Write p key value) (stepped st (Call.Write p key value))

@@ -95,7 +95,7 @@ module _ {V : Type 0} where
           sorted = subst Sorted (sym plain.order) i.sorted;
           numbered = subst (All (λ (t : Transaction V). t.number ≤ st.counter)) (sym plain.order) i.numbered;
           limit = i.limit;
-          holds = (let h = i.holds in let a = plain.grants in let b = plain.put in let c = plain.freed in omega arith);
+          holds = (omega arith);
         }
       where
         next : Store V

@@ -68,10 +68,10 @@ module _ {V : Type 0} where
     is_busy = (i.seated p at).busy (grind (arith, nat_tests))
 
     pub none_handled : (live p es).handled ≡ 0
-    none_handled = let h = is_busy.handled in grind (arith, nat_tests)
+    none_handled = grind (arith, nat_tests)
 
     pub not_decided : (live p es).decided ≡ false
-    not_decided = let h = is_busy.decided in grind (arith, nat_tests)
+    not_decided = grind (arith, nat_tests)
 
     pub no_win : (k : ℕ) → unsettled_write k (live p es) ≡ None
     no_win k = ap (λ b. when b (pending_write k (live p es))) not_decided
@@ -107,7 +107,7 @@ module _ {V : Type 0} where
                 let w = is_busy.writes k f is ∙ ap (λ b. cond b (Some f.value) None) unwritten in
                 record { fair = o.fair; begins = o.begins; ends = o.ends; value = o.value; sees = (o.sees, λ _. along_unwritten k (live p es).ops w (Some f.value) ∙ ap (λ (g : Entry V). Some g.value) (sym same)) };
             holds = λ u is. held_known row (old.holds u (ap is_some (sym (open_read k k e.value (live p es) none_handled)) ∙ is)) (ap is_some (sym (open_is_last k after none_handled)) ∙ is);
-            wins = λ v is. absurd (let d = (won_open k after v is).0 in let n = not_decided in grind (arith, nat_tests));
+            wins = λ v is. absurd (let n = not_decided in grind (arith, nat_tests));
           }
         where
           held_known : (row : Row V) → Rattle.serial.proofs.Invariant.HoldOk k row now_seat → is_some (last_write k (live p es).ops) ≡ true → Rattle.serial.proofs.Invariant.HoldOk k row (seat_in p here st.tables.entries after)
@@ -170,14 +170,11 @@ module _ {V : Type 0} where
         where
           go : (o : Option V) → last_write k (live p es).ops ≡ o → last_write k (live p es).ops ≡ None
           go None is = is
-          go (Some v) is = absurd (let w = written_among k (live p es).ops v is in let n = not_among in grind (arith, nat_tests))
+          go (Some v) is = absurd (cc (written_among k (live p es).ops v is, not_among))
 
       busy_new : Busy new_seat
       busy_new =
           let b = is_busy in
-          let f = b.few in
-          let c = b.within in
-          let z = b.sized in
           record {
             few = omega arith;
             within = omega arith;
@@ -210,7 +207,7 @@ module _ {V : Type 0} where
             owner = (ok.stakes p at).owner ∙ ap is_some (sym (open_read k k row.value (live p es) none_handled));
             seen = λ u e is no'. let same : entry ≡ e = cc (found_here) in subst (LeaseOk k (x k) row (serial_order es) new_seat) same (lease_new won ok);
             holds = λ u is. absurd (let o = ap is_some (open_is_last k reader none_handled ∙ unwritten) in cc);
-            wins = λ v is. absurd (let d = (won_open k reader v is).0 in let n = not_decided in grind (arith, nat_tests));
+            wins = λ v is. absurd (grind (arith, nat_tests));
           }
 
       alike_new : (j : ℕ) → (j ≡ k → ⊥) → Alike j now_seat new_seat
@@ -221,7 +218,7 @@ module _ {V : Type 0} where
             undecided = λ u. u;
             entry = found_there j apart;
             later = omega arith;
-            same = λ d. absurd (let n = not_decided in grind (arith, nat_tests));
+            same = λ d. absurd (grind (arith, nat_tests));
             sees = λ y s. sees_other j k row.value y (live p es).ops apart s;
           }
 
@@ -273,7 +270,6 @@ module _ {V : Type 0} where
         go (Err fault) is = inv_refused x es st (Call.Read p k) fault i
         go (Ok pl) is =
             let en = entered_ok 2 st.tables.places (length st.tables.entries) p k pl is in
-            let ok = en.admitted in
             let same = ap (λ (o : Place). o.state) en.here in
             subst (λ (o : Place). Kept (reading st.tables p k o (sought k 0 (sheet p (used_of o) st.tables.entries)))) en.here
             (by_entry' en.place (grind (arith, nat_tests)) (sought k 0 (seat_of st es p).sheet) refl)

@@ -69,7 +69,6 @@ module _ {V : Type 0} where
           seen = seen;
           holds = λ u is.
               let o = old.owner ∙ is in
-              let f = r.free in
               let g = place_range q at in
               grind (arith, nat_tests);
           wins = λ v is. absurd (let w = old.wins v is in cc);
@@ -80,15 +79,15 @@ module _ {V : Type 0} where
         stake_longer q at s s.place s.sheet old
         (λ u e is unwritten.
         let o = old.seen u e is unwritten in
-        record { fair = o.fair; begins = o.begins; ends = (let a = o.ends in let b = r.longer in omega arith); value = o.value; sees = o.sees })
+        record { fair = o.fair; begins = o.begins; ends = (omega arith); value = o.value; sees = o.sees })
 
     key_longer : (seats next : ℕ → Seat V) (p : ℕ) (n : Seat V) → is_place p ≡ true → Moves seats next p n → Stake k x new us None p n
         → KeyOk k x row us seats None → KeyOk k x new us next None
     key_longer seats next p n at m stake old =
         record {
-          fair = (let a = old.fair in let b = r.longer in let c = r.begins in omega arith);
-          stands = λ τ low. old.stands τ (let c = r.begins in omega arith) ∙ ap (λ (v : V). Some v) (sym r.value);
-          quiet = All-weaker _ _ (λ t h past. h (let b = r.longer in omega arith)) us old.quiet;
+          fair = (let b = r.longer in let c = r.begins in omega arith);
+          stands = λ τ low. old.stands τ (omega arith) ∙ ap (λ (v : V). Some v) (sym r.value);
+          quiet = All-weaker _ _ (λ t h past. h (omega arith)) us old.quiet;
           sees = old.sees;
           above = tt;
           winner = λ w is. cc;
@@ -118,9 +117,7 @@ module _ {V : Type 0} where
     limits : here.state ≡ 2 → (e : Entry V) → at_cursor st.tables.entries p here ≡ Some e
         → (cursor_of here ≡ here.cursor) × (cursor_of here < used_of here) × (used_of here ≤ 16) × (used_of here ≡ here.used)
     limits frozen e is =
-        let a = (busy frozen).few in
-        let b = (busy frozen).within in
-        let c = (busy frozen).sized in
+        let b = busy frozen in
         let d = nth_low was (cursor_of here) e is in
         (omega arith, omega arith, omega arith, omega arith)
 
@@ -142,7 +139,7 @@ module _ {V : Type 0} where
             keys = keys ∙ b.keys;
             writes = writes;
             decided = b.decided;
-            handled = (let h = b.handled in grind (arith, nat_tests));
+            handled = (grind (arith, nat_tests));
             passed = λ _ j f below is' unwritten. go j f below is' unwritten (eqb_tells j (cursor_of here));
           };
         }
@@ -155,7 +152,6 @@ module _ {V : Type 0} where
             let one : e ≡ f = cc in
             subst (λ (g : Entry V). here.ts ≤ g.rts) one (reaches (ap (λ (g : Entry V). g.written) one ∙ unwritten))
         go j f below is' unwritten (inr apart) =
-            let other = apart.1 in
             (busy frozen).passed frozen j f (omega arith) (sym (others j apart.1) ∙ is') unwritten
 
     -- Nothing is to do for an entry that was written or whose lease reaches the timestamp.
@@ -164,9 +160,6 @@ module _ {V : Type 0} where
         → Inv x (did_renew p left ∷ es) (moved_state st st.tables.home st.counter p (onward here) st.tables.entries)
     inv_passed frozen left e is test =
         let l = limits frozen e is in
-        let a = l.0 in
-        let b = l.1 in
-        let c = l.3 in
         inv_moves x es st (did_renew p left) p (onward here) st.tables.entries (live p es) i
         (record { order = refl; grants = refl; put = refl; freed = refl }) at refl
         (moved st es (did_renew p left ∷ es) st.tables.home st.counter p (onward here) st.tables.entries (live p es)
@@ -207,17 +200,13 @@ module _ {V : Type 0} where
       writes_after k f =
           by_place (λ j. found j sheet_after ≡ Some f → last_write j (live p es).ops ≡ write_of f) e.key k
           (λ is'.
-          let h = now_found.0 in
-          let one : longer ≡ f = cc in
+          let one : longer ≡ f = cc (now_found.0) in
           (busy frozen).writes e.key e was_found ∙ ap (λ (g : Entry V). write_of g) one)
           (λ apart is'. (busy frozen).writes k f (sym (now_found.1 k apart) ∙ is'))
 
       seated_after : Seated (onward_seat sheet_after)
       seated_after =
           let l = limits frozen e is in
-          let a = l.0 in
-          let b = l.1 in
-          let c = l.3 in
           seated_onward frozen sheet_after longer l.0 (omega arith)
           (nth_set_same was (cursor_of here) longer ∙ ap (λ (o : Option (Entry V)). over o longer) is)
           (λ _. r.reaches)
@@ -229,8 +218,6 @@ module _ {V : Type 0} where
       only_here : OnlyAt p st.tables.entries entries_after
       only_here q n is' apart few =
           let l = limits frozen e is in
-          let a = l.1 in
-          let b = l.2 in
           sheet_other p q (cursor_of here) n st.tables.entries longer at is' apart (omega arith) few
 
       seats_after : Moves (seat_of st es) (seat_of after_state (did_renew p left ∷ es)) p (seat_in p (onward here) entries_after (live p es))
@@ -252,9 +239,6 @@ module _ {V : Type 0} where
       lease_after : KeyWas None → LeaseOk e.key (x e.key) new (serial_order es) (onward_seat sheet_after) longer
       lease_after ok =
           let old = (ok.stakes p at).seen (grind (arith, nat_tests)) e was_found unwritten in
-          let a = r.stood in
-          let b = ok.fair in
-          let c = r.longer in
           let f = old.fair in
           let one : value_upto e.key (x e.key) e.wts (serial_order es) ≡ Some e.value = old.value e.wts (omega arith) f in
           let two : value_upto e.key (x e.key) e.wts (serial_order es) ≡ Some row.value = ok.stands e.wts (omega arith) in
@@ -276,8 +260,7 @@ module _ {V : Type 0} where
               stake_longer e.key (x e.key) row new (serial_order es) e.wts here.ts r p at
               (seat_of st es p) (onward here) sheet_after (ok.stakes p at)
               (λ u f is' unwritten'.
-              let h = now_found.0 in
-              let one : longer ≡ f = cc in
+              let one : longer ≡ f = cc (now_found.0) in
               subst (LeaseOk e.key (x e.key) new (serial_order es) (onward_seat sheet_after)) one (lease_after ok))
 
           go : KeyWas None → KeyNow None
@@ -292,7 +275,7 @@ module _ {V : Type 0} where
           inv_changes x es st (did_renew p left) p (onward here) entries_after (live p es) e.key row new i at
           (record {
             order = refl;
-            count = (let a = r.free in let b = r.holder in grind (arith, nat_tests));
+            count = (grind (arith, nat_tests));
             long = length_put_entry st.tables.entries p (cursor_of here) longer;
             was = stored;
             moves = seats_after;
@@ -354,6 +337,5 @@ module _ {V : Type 0} where
         go (Ok pl) is =
             let en = entered_ok 5 st.tables.places (length st.tables.entries) p 0 pl is in
             let same = ap (λ (o : Place). o.state) en.here in
-            let ok = en.admitted in
             subst (λ (o : Place). Inv x ((step (rule o)).event ∷ es) (step (rule o)).store) en.here
             (keeps_cursor x es st p i en.place (grind (arith, nat_tests)) _ refl)

@@ -131,7 +131,7 @@ module _ {V : Type 0} where
   sees_skip k [] none y = tt
   sees_skip k (reads j v ∷ os) none y =
       let n = not_noted k j (keys_of os) none in
-      (sees_skip k os n.1 y, λ same. absurd (let e = n.0 in grind (arith, nat_tests)))
+      (sees_skip k os n.1 y, λ same. absurd (grind (arith, nat_tests)))
   sees_skip k (writes j v ∷ os) none y = sees_skip k os (not_noted k j (keys_of os) none).1 y
 
   pub along_unwritten : (k : ℕ) (os : List (Op V)) → last_write k os ≡ None → Quiet k os
@@ -181,7 +181,6 @@ module _ {V : Type 0} where
   upto_end k x τ [] low = refl
   upto_end k x τ (u ∷ us) low =
       let ih = upto_end k x τ us low.1 in
-      let first = low.0 in
       let here : leb u.ts τ ≡ true = grind (arith, nat_tests) in
       ap (λ (o : Option V). along k o u.ops) ih ∙ sym (ap (λ b. cond b (along k (value_upto k x τ us) u.ops) (value_upto k x τ us)) here)
 

@@ -94,7 +94,6 @@ module _ {V : Type 0} where
           later = omega arith;
           fair = omega arith;
           stands = λ τ from.
-              let h = old.fair in
               let past : leb t τ ≡ true = grind (arith, nat_tests) in
               old.stands τ (omega arith) ∙ ap (λ w. Some (standing w row τ)) wins ∙ ap (λ b. Some (cond b v row.value)) past;
           quiet = subst (λ w. All (λ (u : Transaction V). bound w row < u.ts → among k (keys_of u.ops) ≡ false) us) wins old.quiet;
@@ -130,7 +129,7 @@ module _ {V : Type 0} where
         }
       where
         nobody : (q : ℕ) → is_place q ≡ true → eqb new.holder q ≡ false
-        nobody q is = let range = place_range q is in let none = r.free in grind (arith, nat_tests)
+        nobody q is = let range = place_range q is in grind (arith, nat_tests)
 
         not_won : (l : Live V) → is_some (pending_write k l) ≡ false → (v : V) → unsettled_write k l ≡ Some v → ⊥
         not_won l none v is = let o = ap (λ (a : Option V). is_some a) (won_open k l v is).1 in cc
@@ -150,7 +149,7 @@ module _ {V : Type 0} where
               owner = nobody q is ∙ sym none;
               seen = λ u e is' unwritten.
                   let o = (old.stakes q is).seen u e is' unwritten in
-                  record { fair = o.fair; begins = o.begins; ends = (let h = o.ends in let l = r.later in omega arith); value = o.value; sees = o.sees };
+                  record { fair = o.fair; begins = o.begins; ends = (omega arith); value = o.value; sees = o.sees };
               holds = λ u is'. cc;
               wins = λ v is'. absurd (not_won (seats q).live none v is');
             }
@@ -172,10 +171,10 @@ module _ {V : Type 0} where
       busy = (i.seated p at).busy (grind (arith, nat_tests))
 
       stored : cursor_of here ≡ here.cursor
-      stored = let a = busy.few in let b = busy.within in omega arith
+      stored = omega (arith, busy)
 
       handled_is : now.handled ≡ cursor_of here
-      handled_is = let h = busy.handled in let s = stored in grind (arith, nat_tests)
+      handled_is = grind (arith, nat_tests, busy, stored)
 
       -- ---- nothing is left: the place becomes free
 
@@ -234,8 +233,6 @@ module _ {V : Type 0} where
           busy = λ _.
               let b = busy in
               let low = nth_below (sheet p (used_of here) entries) (cursor_of here) e is in
-              let size = b.sized in
-              let h = handled_is in
               record {
                 few = b.few;
                 within = omega arith;
@@ -383,6 +380,5 @@ module _ {V : Type 0} where
         go (Ok pl) is =
             let en = entered_ok 7 st.tables.places (length st.tables.entries) p 0 pl is in
             let state = ap (λ (o : Place). o.state) en.here in
-            let ok = en.admitted in
             subst (λ (o : Place). Inv x ((came (rule o)).event ∷ es) (came (rule o)).store) en.here
             (by_entry x es st p i en.place (grind (arith, nat_tests)) _ refl)

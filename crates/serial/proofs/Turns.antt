@@ -27,8 +27,6 @@ module _ {V : Type 0} where
 
     busy_turned : (s : ℕ) → leb 2 s && leb s 3 ≡ true → undecided here ≡ true → Busy (seat_of st es p) → Busy (seat_in p (moved_to s here) st.tables.entries (live p es))
     busy_turned s range was b =
-        let d = b.decided in
-        let h = b.handled in
         record {
           few = b.few;
           within = omega arith;
@@ -146,5 +144,4 @@ module _ {V : Type 0} where
         go (Ok pl) is =
             let en = entered_ok 1 st.tables.places (length st.tables.entries) p 0 pl is in
             let same = ap (λ (o : Place). o.state) en.here in
-            let ok = en.admitted in
             begun en.place (grind (arith, nat_tests))

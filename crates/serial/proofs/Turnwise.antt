@@ -50,7 +50,7 @@ in_course code places n p pl later en =
     }
   where
     was : engaged pl ≡ true
-    was = let ok = en.admitted in grind (arith, nat_tests)
+    was = grind (arith, nat_tests)
 
 lost_same : (places : List Place) (p : ℕ) (pl : Place) → InCourse places p pl → (fault : Fault) → Same places (lost_if fault places p pl)
 lost_same places p pl c fault = go (loses fault)
@@ -278,7 +278,6 @@ module _ {V : Type 0} where
     -- Let in by any call but begin and settle, a transaction has neither decided nor settled anything.
     undecided_now : (code : ℕ) (pl : Place) → leb 2 code && leb code 8 ≡ true → eqb code 7 ≡ false → Entered code st.tables.places (length st.tables.entries) p pl → Undecided p es
     undecided_now code pl range other en =
-        let ok = en.admitted in
         let state = ap (λ (o : Place). o.state) en.here in
         let was : engaged here ≡ true = grind (arith, nat_tests) in
         let d = ((i.seated p en.place).busy was).decided in
@@ -324,7 +323,6 @@ module _ {V : Type 0} where
         go (Err fault) is = tt {0}
         go (Ok pl) is =
             let en = entered_ok 1 st.tables.places (length st.tables.entries) p 0 pl is in
-            let ok = en.admitted in
             let state = ap (λ (o : Place). o.state) en.here in
             r p en.place ∙ grind (arith, nat_tests)
 
@@ -334,14 +332,9 @@ module _ {V : Type 0} where
 
     progress : (pl : Place) → Entered 7 st.tables.places (length st.tables.entries) p pl → (running p es ≡ true) × Progress pl
     progress pl en =
-        let ok = en.admitted in
         let state = ap (λ (o : Place). o.state) en.here in
         let was : engaged here ≡ true = grind (arith, nat_tests) in
         let b = (i.seated p en.place).busy was in
-        let few = b.few in
-        let within = b.within in
-        let sized = b.sized in
-        let handled = b.handled in
         let far : now.handled ≡ here.cursor = grind (arith, nat_tests) in
         let size = length-map (sheet p (used_of here) st.tables.entries) (λ (e : Entry V). e.key) in
         let keys = ap length b.keys in
@@ -361,9 +354,6 @@ module _ {V : Type 0} where
         (f.0, (refl, omega arith)))
         (λ pl en e is.
         let f = progress pl en in
-        let far = f.1.0 in
-        let keys = f.1.1 in
-        let size = f.1.2 in
         let below = sym (ap is_some is) ∙ reached (sheet p (used_of pl) st.tables.entries) (cursor_of pl) in
         let some : cursor_of pl < used_of pl = grind (arith, nat_tests) in
         (f.0, omega arith))

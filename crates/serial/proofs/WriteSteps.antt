@@ -80,7 +80,7 @@ module _ {V : Type 0} where
 
     -- An undecided transaction has won nothing.
     never_won : (k : ℕ) (v v' : V) → unsettled_write k (doing (writes k v) (live p es)) ≡ Some v' → ⊥
-    never_won k v v' is = let d = (won_open k (doing (writes k v) (live p es)) v' is).0 in let n = undone in grind (arith, nat_tests)
+    never_won k v v' is = let d = (won_open k (doing (writes k v) (live p es)) v' is).0 in grind (arith, nat_tests)
 
     -- What the writes of the sheet are after a write.
     writes_after : (k : ℕ) (v : V) (sh : List (Entry V)) (e : Entry V) → write_of e ≡ Some v → found k sh ≡ Some e → ((j : ℕ) → (j ≡ k → ⊥) → found j sh ≡ found j now_seat.sheet) → (j : ℕ) (f : Entry V) → found j sh ≡ Some f → last_write j (writes k v ∷ (live p es).ops) ≡ write_of f
@@ -141,7 +141,7 @@ module _ {V : Type 0} where
         stake_here won ok =
             record {
               owner = (let yes' : eqb p p ≡ true = grind (arith, nat_tests) in yes' ∙ ap is_some (sym (open_here k v (live p es) unhandled)));
-              seen = λ u e is no'. absurd (let f = t.first in let same : entry ≡ e = cc in let w = ap (λ (o : Entry V). o.written) same in cc);
+              seen = λ u e is no'. absurd (let same : entry ≡ e = cc in let w = ap (λ (o : Entry V). o.written) same in cc);
               holds = λ u is. record { above = omega arith; sees = t.sees won ok };
               wins = λ v' is. absurd (never_won k v v' is);
             }
@@ -199,7 +199,7 @@ module _ {V : Type 0} where
                 undecided = λ u. u;
                 entry = t.others j apart;
                 later = omega arith;
-                same = λ d. absurd (let n = undone in grind (arith, nat_tests));
+                same = λ d. absurd (grind (arith, nat_tests));
                 sees = λ y s. s;
               };
               fresh = λ j apart. among_other j k (keys_of (live p es).ops) apart;
@@ -213,14 +213,11 @@ module _ {V : Type 0} where
 
       pub taken_new : Taken k v row (used_of here) (used_of here + 1)
       taken_new =
-          let f = busy.few in
-          let c = busy.within in
-          let z = busy.sized in
           record {
             room = room;
             few = omega arith;
-            within = omega arith;
-            sized = ap length pushed ∙ length_push now_seat.sheet new ∙ (omega arith);
+            within = omega (arith, busy);
+            sized = ap length pushed ∙ length_push now_seat.sheet new ∙ omega (arith, busy);
             keys = ap keyed pushed ∙ keyed_push now_seat.sheet new ∙ ap (λ ks. ks ++ k ∷ []) busy.keys ∙ sym (new_keys k (keys_of (live p es).ops) not_among);
             first = ap (found k) pushed ∙ found_pushed now_seat.sheet new unknown;
             others = λ j apart. ap (found j) pushed ∙ found_unpushed now_seat.sheet new j apart;
@@ -251,11 +248,7 @@ module _ {V : Type 0} where
       -- the entry at its place in the sheet, under the same key
       module _ (new : Entry V) (same : new.key ≡ k) where
         changed_sheet : sheet p (used_of here) (put_entry st.tables.entries p n new) ≡ set now_seat.sheet n new
-        changed_sheet =
-            let z = busy.sized in
-            let f = busy.few in
-            let h = at_key.3 in
-            sheet_set p n (used_of here) st.tables.entries new at (omega arith) (omega arith)
+        changed_sheet = sheet_set p n (used_of here) st.tables.entries new at (omega (arith, busy, at_key)) (omega arith)
 
         is_key : new.key ≡ e.key
         is_key = same ∙ sym at_key.1
@@ -270,7 +263,7 @@ module _ {V : Type 0} where
         changed_keys = keyed_set now_seat.sheet n e new at_key.0 is_key ∙ busy.keys ∙ sym (known_keys k (keys_of (live p es).ops) among_known)
 
         room_known : n < 16
-        room_known = let z = busy.sized in let f = busy.few in let h = at_key.3 in omega arith
+        room_known = omega (arith, busy, at_key)
 
       -- ---- one that was read: the version still stands
 
@@ -294,7 +287,6 @@ module _ {V : Type 0} where
           saw : (won : Option (V × ℕ)) → KeyOk k (x k) row (serial_order es) (seat_of st es) won → Sees k (Some row.value) (live p es).ops
           saw won ok =
               let l = (ok.stakes p at).seen (grind (arith, nat_tests)) e at_key.2 read in
-              let f = l.fair in
               let old = l.value e.wts (omega arith) (omega arith) in
               let now' = ok.stands e.wts (omega arith) ∙ ap (λ (w : Option (V × ℕ)). Some (standing w row e.wts)) (free_won k (x k) row (serial_order es) (seat_of st es) won ok free) in
               let same : e.value ≡ row.value = cc in
@@ -342,7 +334,7 @@ module _ {V : Type 0} where
             let was : is_some (pending_write k (live p es)) ≡ true = ap is_some (open_is_last k (live p es) unhandled ∙ last_known) in
             record {
               owner = old.owner ∙ was ∙ ap is_some (sym (open_here k v (live p es) unhandled));
-              seen = λ u f is no'. absurd (let h = first_again in let same : rewritten ≡ f = cc in let w = ap (λ (o : Entry V). o.written) same in cc);
+              seen = λ u f is no'. absurd (cc (first_again));
               holds = λ u is. let o = old.holds u was in record { above = o.above; sees = o.sees };
               wins = λ v' is. absurd (never_won k v v' is);
             }
@@ -431,7 +423,6 @@ module _ {V : Type 0} where
         go (Err fault) is = inv_refused x es st (Call.Write p k v) fault i
         go (Ok pl) is =
             let en = entered_ok 3 st.tables.places (length st.tables.entries) p k pl is in
-            let ok = en.admitted in
             let same = ap (λ (o : Place). o.state) en.here in
             subst (λ (o : Place). Kept (writing st.tables p k v o (sought k 0 (sheet p (used_of o) st.tables.entries)))) en.here
             (by_sheet en.place (grind (arith, nat_tests)) (sought k 0 (seat_of st es p).sheet) refl)
