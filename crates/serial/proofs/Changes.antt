@@ -3,13 +3,13 @@ use Rattle.std.proofs.Common.{◌≡◌, ℕ, zero, suc, ◌+◌, ◌≤◌, Boo
 use Rattle.std.specs.List.{slice_get, AllByRecursion as All}
 use Rattle.std.proofs.lemmas.Bool.Decides.{nat_tests}
 use Rattle.home.specs.declared.row.Row.{Row}
+use Rattle.home.proofs.Laws.{nth_set_other, nth_set_same}
 use Rattle.home.specs.Meaning.{Meaning, is_place}
 use Rattle.coordinator.specs.declared.tables.Place.{Place}
 use Rattle.coordinator.specs.declared.tables.Entry.{Entry}
 use Rattle.serial.specs.Events.{Event, Store}
 use Rattle.serial.specs.Transactions.{Live, Transaction, among, frees, granted, is_some, keys_of, live, pending_write, puts, serial_order, when, unsettled_write}
 use Rattle.serial.specs.Serial.{Sorted, held_now}
-use Rattle.serial.proofs.Run.{nth_set_other, nth_set_same, over}
 use Rattle.serial.proofs.Seats.{length_put_place, place_range}
 use Rattle.serial.proofs.Invariant.{Alike, Inv, KeyOk, Moves, Seat, Seated, VoidOk, by_place, key_moves, seat_of, stake_alike, void_moves, won_alike}
 use Rattle.serial.proofs.Moves.{moved_state, seat_in, seated_moves}
@@ -110,10 +110,7 @@ module _ {V : Type 0} where
       where
         here : (r : Row V) → slice_get (set st.tables.home.rows k new) k ≡ Some r → (won : Option (V × ℕ)) × KeyOk k (x k) r (serial_order es) (seat_of next_state (e ∷ es)) won
         here r is =
-            let s = nth_set_same st.tables.home.rows k new in
-            let w = ok.was in
-            let o : slice_get (set st.tables.home.rows k new) k ≡ Some new = s ∙ ap (λ (a : Option (Row V)). over a new) w in
-            let same : new ≡ r = cc in
+            let same : new ≡ r = cc (nth_set_same st.tables.home.rows k new ok.was) in
             let old = i.keys k row ok.was in
             subst (λ (a : Row V). (won : Option (V × ℕ)) × KeyOk k (x k) a (serial_order es) (seat_of next_state (e ∷ es)) won) same (ok.key old.0 old.1)
 
@@ -128,9 +125,7 @@ module _ {V : Type 0} where
         each j r is = by_place (λ m. slice_get (set st.tables.home.rows k new) m ≡ Some r → (won : Option (V × ℕ)) × KeyOk m (x m) r (serial_order es) (seat_of next_state (e ∷ es)) won) k j (here r) (λ apart. there j r apart) is
 
         gone : slice_get (set st.tables.home.rows k new) k ≡ None → ⊥
-        gone is =
-            let s = nth_set_same st.tables.home.rows k new ∙ ap (λ (a : Option (Row V)). over a new) ok.was in
-            cc
+        gone is = cc (nth_set_same st.tables.home.rows k new ok.was)
 
         none : (j : ℕ) → slice_get (set st.tables.home.rows k new) j ≡ None → VoidOk j (x j) (serial_order es) (seat_of next_state (e ∷ es))
         none j is =

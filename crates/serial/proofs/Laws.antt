@@ -12,6 +12,7 @@ use Rattle.home.specs.declared.row.Cause.{Cause}
 use Rattle.home.specs.declared.row.Change.{Change}
 use Rattle.home.specs.declared.row.Change.TheVariants.{Free, Put}
 use Rattle.home.specs.Rows.{Outcome, refuses, grants, free_row, put_row}
+use Rattle.home.proofs.Laws.{nth_set_other, nth_set_same}
 use Rattle.home.specs.Meaning.{Meaning, after, amended_at, changed, fault_at, found as row-found, is_place, looked, no_place, raised}
 use Rattle.coordinator.specs.declared.call.Call.{Call}
 use Rattle.coordinator.specs.declared.tables.Place.{Place}
@@ -20,7 +21,6 @@ use Rattle.coordinator.specs.Tables.{admits, at_cursor, base_of, by_state, count
 use Rattle.coordinator.specs.Calls.{Decision, Did, abort_turn, begin_turn, by_entry, comparing, comparing_at, decide_turn, deciding_at, ending, freed, freeze_turn, holding, holding_at, left_after, loses, moved_to, moving, onward, read_call, reading, reading_new, reading_row, refused as away, renew_call, renewing, renewing_at, renewing_row, rewriting, settle_call, settling, settling_row, turning, with_places, write_call, writing}
 use Rattle.serial.specs.Events.{Event, Store, Step, by_decision, by_did, by_turn, did_abort, did_begin, did_decide, did_freeze, did_read, did_renew, did_settle, did_write, refused, stepped}
 use Rattle.serial.specs.Laws.{Handled, Lawful, OneEntry, Reaches, losing, place_of, raised_by}
-use Rattle.serial.proofs.Run.{nth_set_other, nth_set_same, over}
 use Rattle.serial.proofs.Seats.{blank, entered_ok, place_range, sheet_length}
 use Rattle.serial.proofs.Keys.{sought_found}
 use Rattle.serial.proofs.Settles.{nth_below}
@@ -385,7 +385,7 @@ module _ {V : Type 0} where
         omega arith
 
     goes_to : (new : Place) → slice_get (put_place st.tables.places (place_of call) new) (place_of call - 1) ≡ Some new
-    goes_to new = nth_set_same st.tables.places (place_of call - 1) new ∙ ap (λ o. over o new) h.was
+    goes_to new = nth_set_same st.tables.places (place_of call - 1) new h.was
 
     -- The place goes on, and the entry at the cursor may be altered.
     handles : (e : Entry V) → at_cursor st.tables.entries (place_of call) pl ≡ Some e → (home : Meaning V) (entries : List (Entry V))

@@ -21,7 +21,6 @@ use Rattle.serial.proofs.Keys.{found, found_among, found_pushed, found_unpushed,
 use Rattle.serial.proofs.Invariant.{Alike, Busy, Inv, KeyOk, LeaseOk, Seat, Seated, Stake, by_place, engaged, seat_of, stake_alike, undecided, won_alike, write_of}
 use Rattle.serial.proofs.Moves.{inv_moves, inv_refused, moved, moved_state, other_place, same_place, seat_in}
 use Rattle.serial.proofs.Turns.{same_entries}
-use Rattle.serial.proofs.Changes.{won_open}
 
 pub known_keys : (k : ℕ) (ks : List ℕ) → among k ks ≡ true → noted k ks ≡ ks
 known_keys k ks is = ap (λ b. cond b ks (ks ++ k ∷ [])) is

@@ -9,7 +9,7 @@ use Rattle.home.specs.declared.row.Change.{Change}
 use Rattle.home.specs.declared.row.Change.TheVariants.{Renew}
 use Rattle.home.specs.Rows.{Outcome, grants, refuses, renew_row}
 use Rattle.home.specs.Meaning.{changed, fault_at, is_place}
-use Rattle.home.proofs.Laws.{granted}
+use Rattle.home.proofs.Laws.{granted, nth_set_other, nth_set_same}
 use Rattle.coordinator.specs.declared.call.Call.{Call}
 use Rattle.coordinator.specs.declared.tables.Place.{Place}
 use Rattle.coordinator.specs.declared.tables.Entry.{Entry}
@@ -17,7 +17,7 @@ use Rattle.coordinator.specs.Tables.{at_cursor, cursor_of, entered, put_entry, s
 use Rattle.coordinator.specs.Calls.{Did, by_entry, left_after, moving, onward, renew_call, renewing, renewing_at, renewing_row, wish_of}
 use Rattle.serial.specs.Events.{Event, Store, Step, by_did, did_renew, stepped}
 use Rattle.serial.specs.Transactions.{Transaction, last_write, live, serial_order}
-use Rattle.serial.proofs.Run.{nth_set_other, nth_set_same, over, value_upto}
+use Rattle.serial.proofs.Run.{value_upto}
 use Rattle.serial.proofs.Seats.{entered_ok, length_put_entry, place_at, place_range, sheet_other, sheet_set}
 use Rattle.serial.proofs.Keys.{Apart, found, found_set, keyed, keyed_set, keys_apart, nth_found}
 use Rattle.serial.proofs.Invariant.{Busy, Inv, KeyOk, LeaseOk, Moves, Seat, Seated, Stake, by_place, seat_of, undecided, write_of}
@@ -208,7 +208,7 @@ module _ {V : Type 0} where
       seated_after =
           let l = limits frozen e is in
           seated_onward frozen sheet_after longer l.0 (omega arith)
-          (nth_set_same was (cursor_of here) longer ∙ ap (λ (o : Option (Entry V)). over o longer) is)
+          (nth_set_same was (cursor_of here) longer is)
           (λ _. r.reaches)
           (length-set was (cursor_of here) longer)
           (keyed_set was (cursor_of here) e longer is refl)
