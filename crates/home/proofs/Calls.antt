@@ -12,6 +12,10 @@ use Rattle.home.specs.Rows.{Outcome, refuses, grants, row_after, amended}
 use Rattle.home.specs.Meaning.{Meaning, fair, all_fair, rows_after, amended_at, after, changed, checked_place, found, is_sound, no_place, Sound, well_placed}
 use Rattle.home.proofs.Rows.{amended_fair}
 
+-- storing an element where it stands alters nothing
+pub set_same : {A : Type 0} (xs : List A) (i : ℕ) (x : A) → slice_get xs i ≡ Some x → set xs i x ≡ xs
+set_same xs i x at = ap (set xs i) (sym (get_or_from_slice_get xs i x x at)) ∙ set-get_or xs i x
+
 module _ {V : Type 0} where
   -- a row of a home whose rows are fair
   pub fair_at : (last : ℕ) (rows : List (Row V)) (key : ℕ) (row : Row V) → all_fair last rows ≡ true → slice_get rows key ≡ Some row → fair last row ≡ true
@@ -20,10 +24,6 @@ module _ {V : Type 0} where
 
   pub fair_set : (last : ℕ) (rows : List (Row V)) (key : ℕ) (row : Row V) → all_fair last rows ≡ true → fair last row ≡ true → all_fair last (set rows key row) ≡ true
   fair_set last rows key row all new = and_set (all_fair last) (fair last) refl (λ _ _. refl) rows key row new all
-
-  -- storing a row where it stands alters nothing
-  pub set_same : (rows : List (Row V)) (key : ℕ) (row : Row V) → slice_get rows key ≡ Some row → set rows key row ≡ rows
-  set_same rows key row at = ap (set rows key) (sym (get_or_from_slice_get rows key row row at)) ∙ set-get_or rows key row
 
   -- storing what the rule left, accepted or not, is what the call leaves
   pub stored : (rows : List (Row V)) (key : ℕ) (row : Row V) (o : Outcome V) → slice_get rows key ≡ Some row → set rows key (row_after row o) ≡ rows_after rows key o
