@@ -1,5 +1,5 @@
 -- Steps that alter one row: what is owed for the key, and that all else stays.
-use Rattle.std.proofs.Common.{◌≡◌, ℕ, zero, suc, ◌+◌, ◌≤◌, Bool, true, false, cond, eqb, List, [], ◌∷◌, length, set, Some, None, Option, sym, refl, ap, ◌∙◌, subst, arith}
+use Rattle.std.proofs.Common.{◌≡◌, ℕ, zero, suc, ◌+◌, ◌≤◌, true, false, cond, eqb, List, [], ◌∷◌, length, set, Some, None, Option, sym, ap, ◌∙◌, subst, arith}
 use Rattle.std.specs.List.{slice_get, AllByRecursion as All}
 use Rattle.std.proofs.lemmas.Bool.Decides.{nat_tests}
 use Rattle.home.specs.declared.row.Row.{Row}
@@ -8,10 +8,11 @@ use Rattle.home.specs.Meaning.{Meaning, is_place}
 use Rattle.coordinator.specs.declared.tables.Place.{Place}
 use Rattle.coordinator.specs.declared.tables.Entry.{Entry}
 use Rattle.serial.specs.Events.{Event, Store}
-use Rattle.serial.specs.Transactions.{Live, Transaction, among, frees, granted, is_some, keys_of, live, pending_write, puts, serial_order, when, unsettled_write}
+use Rattle.serial.specs.Transactions.{Live, Transaction, among, frees, granted, is_some, keys_of, live, pending_write, puts, serial_order, unsettled_write}
 use Rattle.serial.specs.Serial.{Sorted, held_now}
+use Rattle.serial.proofs.Run.{absent}
 use Rattle.serial.proofs.Seats.{length_put_place, place_range}
-use Rattle.serial.proofs.Invariant.{Alike, Inv, KeyOk, Moves, Seat, Seated, VoidOk, by_place, key_moves, seat_of, stake_alike, void_moves, won_alike}
+use Rattle.serial.proofs.Invariant.{Alike, Inv, KeyOk, Moves, Seat, Seated, VoidOk, by_place, key_moves, seat_of, stake_alike, void_moves, won_alike, won_open}
 use Rattle.serial.proofs.Moves.{moved_state, seat_in, seated_moves}
 
 -- One where the row is held.
@@ -26,14 +27,6 @@ module _ {V : Type 0} where
       let one = ap (λ (o : Row V). held_one o) same in
       omega arith
   held_set (r ∷ rows) (suc k) row new is = let h = held_set rows k row new is in omega arith
-
-  -- What is won is held.
-  pub won_open : (k : ℕ) (l : Live V) (v : V) → unsettled_write k l ≡ Some v → (l.decided ≡ true) × (pending_write k l ≡ Some v)
-  won_open k l v is = go l.decided is
-    where
-      go : (b : Bool) → when b (pending_write k l) ≡ Some v → (b ≡ true) × (pending_write k l ≡ Some v)
-      go true is = (refl, is)
-      go false is = cc
 
   module _ (k : ℕ) (x : Option V) (row : Row V) (us : List (Transaction V)) (seats : ℕ → Seat V) (won : Option (V × ℕ)) (ok : KeyOk k x row us seats won) where
     -- Whoever has an unsettled write of the key is its holder.
@@ -50,23 +43,11 @@ module _ {V : Type 0} where
 
     -- A row that nobody holds has no winner.
     pub free_won : row.holder ≡ 0 → won ≡ None
-    free_won free = go won refl
-      where
-        go : (o : Option (V × ℕ)) → won ≡ o → won ≡ None
-        go None is = is
-        go (Some w) is = absurd (let h = winner_holds w is in let r = place_range row.holder h.0 in omega arith)
+    free_won free = absent won (λ w is. let h = winner_holds w is in let r = place_range row.holder h.0 in omega arith)
 
     -- Nor has one whose holder has not decided.
     pub loser_won : (seats row.holder).live.decided ≡ false → won ≡ None
-    loser_won loses = go won refl
-      where
-        go : (o : Option (V × ℕ)) → won ≡ o → won ≡ None
-        go None is = is
-        go (Some w) is =
-            absurd
-            (let h = winner_holds w is in
-            let o = won_open k (seats row.holder).live w.0 h.1 in
-            cc)
+    loser_won loses = absent won (λ w is. let h = winner_holds w is in let o = won_open k (seats row.holder).live w.0 h.1 in cc)
 
     -- Where the row is held by another or by nobody, a place has no unsettled write of it.
     pub holds_none : (p : ℕ) → is_place p ≡ true → (row.holder ≡ p → ⊥) → is_some (pending_write k (seats p).live) ≡ false

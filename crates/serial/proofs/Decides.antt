@@ -20,10 +20,10 @@ use Rattle.serial.specs.Transactions.{Transaction, among, deciding_now, insert, 
 use Rattle.serial.proofs.Seats.{entered_ok, length_put_place, place_at}
 use Rattle.serial.proofs.Keys.{found, found_among}
 use Rattle.serial.proofs.Run.{Newest, Ordered, Quiet, Sees, AfterSkip, all_insert, along, along_skip, along_unwritten, along_written, ordered, quiet_see, quiet_value, sees_skip, sorted_insert, value_upto, write_after, write_before, write_see, written_among}
-use Rattle.serial.proofs.Invariant.{Busy, HoldOk, Inv, KeyOk, Moves, Seat, Seated, Stake, ahead, bound, by_place, seat_of, standing, undecided, void_moves}
+use Rattle.serial.proofs.Invariant.{Busy, HoldOk, Inv, KeyOk, Moves, Seat, Seated, Stake, ahead, bound, by_place, seat_of, standing, undecided, void_moves, won_open}
 use Rattle.serial.proofs.Moves.{inv_refused, moved, moved_state, other_place, same_place, seated_moves}
 use Rattle.serial.proofs.Turns.{same_entries}
-use Rattle.serial.proofs.Changes.{holds_it, loser_won, won_open}
+use Rattle.serial.proofs.Changes.{holds_it, loser_won}
 
 module _ {V : Type 0} where
   abbrev pub decided_seat : Seat V → Seat V

@@ -6,14 +6,14 @@
 --   Inv ..                 all of it
 use Rattle.std.proofs.Common.{◌≡◌, ℕ, ◌+◌, ◌<◌, ◌≤◌, Bool, true, false, cond, ◌&&◌, ◌||◌, eqb, leb, ◌⊎◌, List, length, Some, None, Option, sym, refl, ap, ◌∙◌, subst, inl, inr, arith}
 use Rattle.std.specs.List.{slice_get, AllByRecursion as All}
-use Rattle.std.proofs.lemmas.Bool.Decides.{eqb_tells}
+use Rattle.std.proofs.lemmas.Bool.{cases_eq}
 use Rattle.home.specs.declared.row.Row.{Row}
 use Rattle.home.specs.Meaning.{is_place}
 use Rattle.coordinator.specs.declared.tables.Place.{Place}
 use Rattle.coordinator.specs.declared.tables.Entry.{Entry}
 use Rattle.coordinator.specs.Tables.{sheet, used_of}
 use Rattle.serial.specs.Events.{Event, Store}
-use Rattle.serial.specs.Transactions.{Live, Orderly, Transaction, among, frees, granted, nothing_done, is_some, keys_of, last_write, live, pending_write, puts, running, serial_order, unsettled_write}
+use Rattle.serial.specs.Transactions.{Live, Orderly, Transaction, among, frees, granted, nothing_done, is_some, keys_of, last_write, live, pending_write, puts, running, serial_order, unsettled_write, when}
 use Rattle.serial.specs.Serial.{Sorted, held_now}
 use Rattle.serial.proofs.Run.{AllSee, Sees, value_upto}
 use Rattle.serial.proofs.Seats.{place_at}
@@ -139,11 +139,7 @@ pub record Good {V : Type 0} (x : ℕ → Option V) (es : List (Event V)) (st : 
 
 -- The place in question, or another.
 pub by_place : (P : ℕ → Type 0) (p q : ℕ) → P p → ((q ≡ p → ⊥) → P q) → P q
-by_place P p q here other = go (eqb_tells q p)
-  where
-    go : ((eqb q p ≡ true) × (q ≡ p)) ⊎ ((eqb q p ≡ false) × (q ≡ p → ⊥)) → P q
-    go (inl same) = subst P (sym same.1) here
-    go (inr apart) = other apart.1
+by_place P p q here other = elim (cases_eq q p) [ inl same ↦ subst P (sym same) here | inr apart ↦ other apart ]
 
 module _ {V : Type 0} where
   -- Nothing that counts for the key has changed, but that the timestamp may have grown.
@@ -156,11 +152,12 @@ module _ {V : Type 0} where
     pub same : s.live.decided ≡ true → n.place.ts ≡ s.place.ts
     pub sees : (y : Option V) → Sees k y s.live.ops → Sees k y n.live.ops
 
-  won_decided : (k : ℕ) (l : Live V) (v : V) → unsettled_write k l ≡ Some v → l.decided ≡ true
-  won_decided k l v is = go l.decided is
+  -- What is won is held.
+  pub won_open : (k : ℕ) (l : Live V) (v : V) → unsettled_write k l ≡ Some v → (l.decided ≡ true) × (pending_write k l ≡ Some v)
+  won_open k l v is = go l.decided is
     where
-      go : (b : Bool) → Rattle.serial.specs.Transactions.when b (pending_write k l) ≡ Some v → b ≡ true
-      go true is = refl
+      go : (b : Bool) → when b (pending_write k l) ≡ Some v → (b ≡ true) × (pending_write k l ≡ Some v)
+      go true is = (refl, is)
       go false is = cc
 
   pub won_alike : (k : ℕ) (s n : Seat V) → Alike k s n → unsettled_write k n.live ≡ unsettled_write k s.live
@@ -178,7 +175,7 @@ module _ {V : Type 0} where
             record { above = (omega arith); sees = a.sees _ o.sees };
         wins = λ v is.
             let was = sym (won_alike k s n a) ∙ is in
-            let t = a.same (won_decided k s.live v was) in
+            let t = a.same (won_open k s.live v was).0 in
             old.wins v was ∙ ap (λ (m : ℕ). Some (v, m)) (sym t);
       }
 

@@ -3,7 +3,7 @@
 --   found k es   the first entry of a key
 --   Sought       what a search that found an entry has shown
 --   Apart ks     no key twice
-use Rattle.std.proofs.Common.{◌≡◌, ℕ, zero, suc, ◌+◌, ◌-◌, ◌<◌, ◌≤◌, Bool, true, false, cond, ◌||◌, eqb, List, [], ◌∷◌, ◌++◌, map, length, drop, set, Some, None, Option, sym, refl, ap, ◌∙◌, subst, arith}
+use Rattle.std.proofs.Common.{◌≡◌, ℕ, zero, suc, ◌+◌, ◌<◌, Bool, true, false, cond, ◌||◌, eqb, List, [], ◌∷◌, ◌++◌, map, length, drop, set, Some, None, Option, sym, refl, ap, ◌∙◌, subst, arith}
 use lib.Seq.{drop-nil}
 use Rattle.std.specs.List.{slice_get}
 use Rattle.std.specs.Option.{option_map}
@@ -16,7 +16,7 @@ use Rattle.home.proofs.Calls.{set_same}
 use Rattle.home.proofs.Laws.{nth_set_same}
 use Rattle.coordinator.specs.declared.tables.Entry.{Entry}
 use Rattle.coordinator.specs.Tables.{sought}
-use Rattle.serial.specs.Transactions.{Op, among, is_some, key_of, keys_of, noted, or_else}
+use Rattle.serial.specs.Transactions.{Op, among, is_some, key_of, keys_of, noted}
 
 abbrev pub keyed : {V : Type 0} → List (Entry V) → List ℕ
 keyed {V} es = map (λ (e : Entry V). e.key) es
@@ -111,10 +111,6 @@ module _ {V : Type 0} where
   pub found_among : (k : ℕ) (es : List (Entry V)) → is_some (found k es) ≡ among k (keyed es)
   found_among k [] = refl
   found_among k (a ∷ es) = grind (arith, nat_tests, found_among k es)
-
-  pub found_key : (k : ℕ) (es : List (Entry V)) (e : Entry V) → found k es ≡ Some e → e.key ≡ k
-  found_key k [] e is = cc
-  found_key k (a ∷ es) e is = grind (arith, nat_tests, found_key k es e)
 
   -- after a push the new entry is found under its key, the old ones under theirs
   pub found_pushed : (es : List (Entry V)) (e : Entry V) → found e.key es ≡ None → found e.key (es ++ (e ∷ [])) ≡ Some e

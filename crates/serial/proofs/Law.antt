@@ -1,7 +1,9 @@
 -- The law of a day from its invariant, and the invariant from the opening on.
-use Rattle.std.proofs.Common.{◌≡◌, ℕ, zero, suc, ◌+◌, ◌-◌, ◌≤◌, Bool, true, false, cond, eqb, leb, List, [], ◌∷◌, ◌++◌, map, length, take, drop, IfOk, Some, None, Ok, Err, Option, Result, sym, refl, ap, ◌∙◌, subst, inl, arith, length-append, length-drop, length-take-le}
+use Rattle.std.proofs.Common.{◌≡◌, ℕ, zero, suc, ◌+◌, ◌-◌, ◌≤◌, Bool, true, false, cond, List, [], ◌∷◌, ◌++◌, map, length, take, drop, IfOk, Some, None, Ok, Err, Option, Result, sym, refl, ap, ◌∙◌, subst, inl, arith, length-append, length-drop, length-take-le}
 use lib.ListN.{length-map, get_or-append, get_or-map}
 use Rattle.std.specs.List.{slice_get, AllByRecursion as All}
+use Rattle.std.specs.Option.{option_map}
+use Rattle.std.proofs.lemmas.Option.{slice_get-map}
 use Rattle.std.proofs.lemmas.Bool.Decides.{nat_tests}
 use Rattle.home.specs.declared.fault.Refusal.TheVariants.{ShortTable}
 use Rattle.home.specs.declared.fault.Fault.{Fault}
@@ -15,31 +17,19 @@ use Rattle.coordinator.specs.Tables.{fault_of, is_short, tables}
 use Rattle.coordinator.specs.Calls.{Decision, freed}
 use Rattle.coordinator.specs.Calls.{held_from, opening, opening_clean}
 use Rattle.serial.specs.Events.{Event, history_of, Store, store}
-use Rattle.serial.specs.Transactions.{Live, Orderly, Transaction, among, decided_in, first_of, is_some, keys_of, last_write, live, pending_write, or_else, serial_order, unsettled, when, unsettled_write}
+use Rattle.serial.specs.Transactions.{Live, Orderly, Transaction, among, decided_in, first_of, is_some, keys_of, live, pending_write, or_else, serial_order, unsettled, when, unsettled_write}
 use Rattle.serial.specs.Serial.{SerialHistory, SerialFrom, held_now, is_held_by, opened, run_all, value_of, values_of}
-use Rattle.serial.proofs.Run.{AllSee, all_along, along_skip, arranged_shuffled, latest, nth_run_all, replays, sees_skip, upto_end, upto_latest, written_among}
+use Rattle.serial.proofs.Run.{absent, never_written, when_none, AllSee, all_along, along_skip, arranged_shuffled, latest, nth_run_all, replays, sees_skip, upto_end, upto_latest}
 use Rattle.serial.proofs.Seats.{blank, place_at, place_range}
 use Rattle.serial.proofs.Steps.{keeps}
 use Rattle.serial.proofs.Invariant.{Good, Inv, KeyOk, Stake, bound, seat_of, standing}
-
-pub nth_map : {A B : Type 0} (f : A → B) (xs : List A) (i : ℕ) (x : A) → slice_get xs i ≡ Some x → slice_get (map f xs) i ≡ Some (f x)
-nth_map f [] i x is = cc
-nth_map {A} {B} f (a ∷ xs) zero x is = let same : a ≡ x = cc in ap (λ (o : A). Some (f o)) same
-nth_map f (a ∷ xs) (suc i) x is = nth_map f xs i x is
-
-pub nth_map_none : {A B : Type 0} (f : A → B) (xs : List A) (i : ℕ) → slice_get xs i ≡ None → slice_get (map f xs) i ≡ None
-nth_map_none f [] i is = refl
-nth_map_none f (a ∷ xs) zero is = cc
-nth_map_none f (a ∷ xs) (suc i) is = nth_map_none f xs i is
 
 -- ---- the first that is there
 
 module _ {V : Type 0} (f : ℕ → Option V) where
   first_none : (n : ℕ) → ((p : ℕ) → 1 ≤ p → p ≤ n → f p ≡ None) → first_of f n ≡ None
   first_none zero none = refl
-  first_none (suc n) none =
-      ap (λ (o : Option V). or_else o (first_of f n)) (none (suc n) (omega arith) (omega arith))
-      ∙ first_none n (λ p low high. none p low (omega arith))
+  first_none (suc n) none = rw (none (suc n) (omega arith) (omega arith)) (first_none n (λ p low high. none p low (omega arith)))
 
   -- All that are there are one and the same.
   first_some : (n : ℕ) (v : V) (p : ℕ) → 1 ≤ p → p ≤ n → f p ≡ Some v →
@@ -66,16 +56,8 @@ module _ {V : Type 0} where
   skipped_see k x [] all = tt
   skipped_see k x (t ∷ us) all = (skipped_see k x us all.1, sees_skip k t.ops all.0 (all_along k x us))
 
-  when_none : (b : Bool) → when {V = V} b None ≡ None
-  when_none true = refl
-  when_none false = refl
-
   unused_write : (k : ℕ) (l : Live V) → among k (keys_of l.ops) ≡ false → pending_write k l ≡ None
-  unused_write k l none = go (last_write k l.ops) refl
-    where
-      go : (o : Option V) → last_write k l.ops ≡ o → when (among k (drop l.handled (keys_of l.ops))) o ≡ None
-      go None is = when_none (among k (drop l.handled (keys_of l.ops)))
-      go (Some v) is = absurd (let some = written_among k l.ops v is in cc)
+  unused_write k l none = ap (when (among k (drop l.handled (keys_of l.ops)))) (never_written k l.ops none) ∙ when_none _
 
   unused_won : (k : ℕ) (l : Live V) → among k (keys_of l.ops) ≡ false → unsettled_write k l ≡ None
   unused_won k l none = ap (when l.decided) (unused_write k l none) ∙ when_none l.decided
@@ -105,14 +87,8 @@ module _ {V : Type 0} (start : List V) (es : List (Event V)) (st : Store V) (i :
 
   -- The unsettled write of a key is what its row waits for.
   open_none : (k : ℕ) (row : Row V) → RowOk k row None → unsettled k es ≡ None
-  open_none k row ok = first_none (λ p. unsettled_write k (live p es)) 64 (λ p low high. each p (grind (arith, nat_tests)))
-    where
-      each : (p : ℕ) → is_place p ≡ true → unsettled_write k (live p es) ≡ None
-      each p at = go (unsettled_write k (live p es)) refl
-        where
-          go : (o : Option V) → unsettled_write k (live p es) ≡ o → o ≡ None
-          go None is = refl
-          go (Some v) is = absurd (let w = (ok.stakes p at).wins v is in cc)
+  open_none k row ok =
+      first_none (λ p. unsettled_write k (live p es)) 64 (λ p low high. absent _ (λ v is. cc ((ok.stakes p (grind (arith, nat_tests))).wins v is)))
 
   open_some : (k : ℕ) (row : Row V) (w : V × ℕ) → RowOk k row (Some w) → unsettled k es ≡ Some w.0
   open_some k row w ok =
@@ -130,10 +106,8 @@ module _ {V : Type 0} (start : List V) (es : List (Event V)) (st : Store V) (i :
   -- At a time past all that was decided, the value that stands is the row's with the unsettled write put in.
   stands_late : (k : ℕ) (row : Row V) (won : Option (V × ℕ)) → RowOk k row won → (τ : ℕ) → bound won row ≤ τ →
       Some (standing won row τ) ≡ or_else (unsettled k es) (Some row.value)
-  stands_late k row None ok τ late = sym (ap (λ (o : Option V). or_else o (Some row.value)) (open_none k row ok))
-  stands_late k row (Some w) ok τ late =
-      let past : leb w.1 τ ≡ true = grind (arith, nat_tests) in
-      ap (λ b. Some (cond b w.0 row.value)) past ∙ sym (ap (λ (o : Option V). or_else o (Some row.value)) (open_some k row w ok))
+  stands_late k row None ok τ late = rw (open_none k row ok)
+  stands_late k row (Some w) ok τ late = rw (open_some k row w ok) (grind (arith, nat_tests))
 
   abbrev Value : ℕ → Type 0
   Value k = slice_get (run_all start (serial_order es)) k ≡ or_else (unsettled k es) (slice_get (values_of st.tables.home) k)
@@ -144,7 +118,7 @@ module _ {V : Type 0} (start : List V) (es : List (Event V)) (st : Store V) (i :
       ∙ upto_end k (slice_get start k) late (serial_order es) (upto_latest late (serial_order es) (omega arith))
       ∙ ok.stands late (omega arith)
       ∙ stands_late k row won ok late (omega arith)
-      ∙ ap (or_else (unsettled k es)) (sym (nth_map value_of home_rows k row is))
+      ∙ ap (or_else (unsettled k es)) (sym (slice_get-map value_of home_rows k ∙ ap (option_map value_of) is))
     where
       won : Option (V × ℕ)
       won = (i.keys k row is).0
@@ -163,7 +137,7 @@ module _ {V : Type 0} (start : List V) (es : List (Event V)) (st : Store V) (i :
       nth_run_all start (serial_order es) k
       ∙ skipped_along k (slice_get start k) (serial_order es) ok.skipped
       ∙ ok.none
-      ∙ sym (nth_map_none value_of home_rows k is)
+      ∙ sym (slice_get-map value_of home_rows k ∙ ap (option_map value_of) is)
       ∙ sym (ap (λ (o : Option V). or_else o (slice_get (values_of st.tables.home) k)) none)
 
   held_row : (p k : ℕ) → is_place p ≡ true → (o : Option (Row V)) → slice_get home_rows k ≡ o → is_held_by p o ≡ is_some (pending_write k (live p es))
@@ -209,12 +183,7 @@ freed_place places p many at =
 module _ {V : Type 0} where
   free_first : (key : ℕ) (row : Row V) (rows : List (Row V)) → held_from key (row ∷ rows) ≡ None →
       (row.holder ≡ 0) × (held_from (key + 1) rows ≡ None)
-  free_first key row rows is = go (eqb row.holder 0) refl is
-    where
-      go : (b : Bool) → eqb row.holder 0 ≡ b → cond b (held_from (key + 1) rows) (Some (key, row.holder)) ≡ None →
-          (row.holder ≡ 0) × (held_from (key + 1) rows ≡ None)
-      go true free is = (grind (arith, nat_tests), is)
-      go false other is = cc
+  free_first key row rows is = (grind (arith, nat_tests), grind (arith, nat_tests))
 
   free_row : (key : ℕ) (rows : List (Row V)) → held_from key rows ≡ None → (k : ℕ) (row : Row V) → slice_get rows k ≡ Some row → row.holder ≡ 0
   free_row key [] none k row is = cc
@@ -255,7 +224,7 @@ module _ {V : Type 0} where
             busy = λ is. absurd (let free = freed_place places p many at in grind (arith, nat_tests));
           };
           keys = λ k row is. (None, key k row is (free_row 0 m.rows none k row is));
-          voids = λ k is. record { none = nth_map_none value_of m.rows k is; skipped = tt; fresh = λ p at. refl };
+          voids = λ k is. record { none = slice_get-map value_of m.rows k ∙ ap (option_map value_of) is; skipped = tt; fresh = λ p at. refl };
           sorted = tt;
           numbered = tt;
           limit = omega arith;
@@ -267,7 +236,7 @@ module _ {V : Type 0} where
             let f = fair_at m.last m.rows k row sound.rows is in
             record {
               fair = grind (arith, nat_tests);
-              stands = λ τ from. nth_map value_of m.rows k row is;
+              stands = λ τ from. slice_get-map value_of m.rows k ∙ ap (option_map value_of) is;
               quiet = tt;
               sees = tt;
               above = tt;

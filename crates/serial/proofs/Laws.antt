@@ -1,9 +1,9 @@
 -- Every call obeys the laws of its refusals and of its reach; its rule is taken apart stage by stage.
 --   Fine st call step    the laws of one call, of a step that it may come to
 --   lawful               the laws of every call
-use Rattle.std.proofs.Common.{◌≡◌, ℕ, zero, suc, ◌+◌, ◌-◌, ◌<◌, ◌≤◌, Bool, true, false, cond, eqb, ltb, ◌⊎◌, List, [], ◌∷◌, length, Some, None, Ok, Err, Option, Result, sym, refl, ap, ◌∙◌, inl, inr, arith, length-set}
+use Rattle.std.proofs.Common.{◌≡◌, ℕ, ◌+◌, ◌-◌, ◌<◌, ◌≤◌, Bool, true, false, cond, eqb, ltb, ◌⊎◌, List, length, Some, None, Ok, Err, Option, Result, sym, refl, ap, ◌∙◌, inl, inr, arith, length-set}
 use Rattle.std.specs.List.{slice_get}
-use Rattle.std.proofs.lemmas.Option.{slice_get-get_or}
+use Rattle.std.proofs.lemmas.Option.{slice_get-get_or, slice_get_cases, slice_get_within}
 use Rattle.std.proofs.lemmas.Bool.Decides.{nat_tests}
 use Rattle.home.specs.declared.fault.Fault.{Fault}
 use Rattle.home.specs.declared.fault.Refusal.TheVariants.{DayFull, MovedOn, NoPlace, PlaceTaken, SheetFull, ShortTable, Unchecked, WrongState}
@@ -23,7 +23,6 @@ use Rattle.serial.specs.Events.{Event, Store, Step, by_decision, by_did, by_turn
 use Rattle.serial.specs.Laws.{Handled, Lawful, OneEntry, Reaches, losing, place_of, raised_by}
 use Rattle.serial.proofs.Seats.{blank, entered_ok, place_range, sheet_length}
 use Rattle.serial.proofs.Keys.{sought_found}
-use Rattle.serial.proofs.Settles.{nth_below}
 
 -- ---- faults that lose nothing
 
@@ -366,23 +365,17 @@ module _ {V : Type 0} where
 
   -- ---- the entry at the cursor
 
-  none_past : (es : List (Entry V)) (c : ℕ) → slice_get es c ≡ None → length es ≤ c
-  none_past [] c is = omega arith
-  none_past (e ∷ es) zero is = cc
-  none_past (e ∷ es) (suc c) is = let h = none_past es c is in omega arith
-
   module _ (st : Store V) (call : Call V) (pl : Place) (h : Here st call pl) where
     cursor_low : (e : Entry V) → at_cursor st.tables.entries (place_of call) pl ≡ Some e → cursor_of pl < used_of pl
     cursor_low e is =
-        let low = nth_below _ (cursor_of pl) e is in
+        let low = slice_get_within _ (cursor_of pl) e is in
         let size = sheet_length (place_of call) (used_of pl) st.tables.entries h.place (omega arith) h.long in
         omega arith
 
     cursor_past : at_cursor st.tables.entries (place_of call) pl ≡ None → cursor_of pl ≡ used_of pl
     cursor_past is =
-        let past = none_past _ (cursor_of pl) is in
         let size = sheet_length (place_of call) (used_of pl) st.tables.entries h.place (omega arith) h.long in
-        omega arith
+        grind (arith, slice_get_cases (sheet (place_of call) (used_of pl) st.tables.entries) (cursor_of pl))
 
     goes_to : (new : Place) → slice_get (put_place st.tables.places (place_of call) new) (place_of call - 1) ≡ Some new
     goes_to new = nth_set_same st.tables.places (place_of call - 1) new h.was

@@ -1,7 +1,7 @@
 -- Steps that leave every row and the order alone: one seat moves.
-use Rattle.std.proofs.Common.{◌≡◌, ℕ, ◌≤◌, true, false, cond, eqb, ◌⊎◌, List, ◌∷◌, length, Some, None, Option, sym, ap, ◌∙◌, subst, inl, inr, arith}
+use Rattle.std.proofs.Common.{◌≡◌, ℕ, ◌≤◌, true, false, cond, eqb, List, ◌∷◌, length, Some, None, Option, sym, ap, ◌∙◌, subst, arith}
 use Rattle.std.specs.List.{slice_get, AllByRecursion as All}
-use Rattle.std.proofs.lemmas.Bool.Decides.{nat_tests, eqb_tells}
+use Rattle.std.proofs.lemmas.Bool.Decides.{nat_tests}
 use Rattle.home.specs.declared.fault.Fault.{Fault}
 use Rattle.home.specs.declared.row.Row.{Row}
 use Rattle.home.specs.Meaning.{Meaning, is_place}
@@ -18,14 +18,10 @@ use Rattle.serial.proofs.Invariant.{Alike, Inv, KeyOk, Moves, Seat, Seated, Stak
 -- ---- events of a place
 
 pub same_place : {A : Type 0} (p : ℕ) (a b : A) → cond (eqb p p) a b ≡ a
-same_place p a b = let is : eqb p p ≡ true = grind (arith, nat_tests) in ap (λ c. cond c a b) is
+same_place p a b = grind (arith, nat_tests)
 
 pub other_place : {A : Type 0} (p q : ℕ) (a b : A) → (q ≡ p → ⊥) → cond (eqb p q) a b ≡ b
-other_place p q a b apart = go (eqb_tells p q)
-  where
-    go : ((eqb p q ≡ true) × (p ≡ q)) ⊎ ((eqb p q ≡ false) × (p ≡ q → ⊥)) → cond (eqb p q) a b ≡ b
-    go (inl same) = absurd (apart (sym same.1))
-    go (inr no') = ap (λ c. cond c a b) no'.0
+other_place p q a b apart = grind (arith, nat_tests)
 
 module _ {V : Type 0} where
   -- ---- a refused call that alters nothing

@@ -15,7 +15,7 @@ use Rattle.coordinator.specs.Tables.{entered, fault_of, put_entry, sheet, sought
 use Rattle.coordinator.specs.Calls.{Did, by_entry, read_call, reading, reading_new, reading_row, refused as away}
 use Rattle.serial.specs.Events.{Event, Store, Step, by_did, did_read, stepped}
 use Rattle.serial.specs.Transactions.{Live, Op, among, doing, is_some, keys_of, last_write, live, noted, pending_write, reads, serial_order, when, unsettled_write}
-use Rattle.serial.proofs.Run.{Sees, along, along_unwritten, along_written, among_noted, sees_skip, value_upto, written_among}
+use Rattle.serial.proofs.Run.{Sees, along, along_unwritten, along_written, among_noted, never_written, sees_skip, value_upto, when_none, written_among}
 use Rattle.serial.proofs.Seats.{blank, entered_ok, length_put_entry, place_at, sheet_other, sheet_push}
 use Rattle.serial.proofs.Keys.{found, found_among, found_pushed, found_unpushed, keyed, keyed_push, sought_found, sought_none}
 use Rattle.serial.proofs.Invariant.{Alike, Busy, Inv, KeyOk, LeaseOk, Seat, Seated, Stake, by_place, engaged, seat_of, stake_alike, undecided, won_alike, write_of}
@@ -27,10 +27,6 @@ known_keys k ks is = ap (λ b. cond b ks (ks ++ k ∷ [])) is
 
 pub new_keys : (k : ℕ) (ks : List ℕ) → among k ks ≡ false → noted k ks ≡ ks ++ k ∷ []
 new_keys k ks is = ap (λ b. cond b ks (ks ++ k ∷ [])) is
-
-pub when_none : {V : Type 0} (b : Bool) → when {V = V} b None ≡ None
-when_none true = refl
-when_none false = refl
 
 -- ---- writes of a transaction that has settled nothing
 
@@ -165,11 +161,7 @@ module _ {V : Type 0} where
       found_there j apart = ap (found j) new_sheet ∙ found_unpushed now_seat.sheet entry j apart
 
       unwritten : last_write k (live p es).ops ≡ None
-      unwritten = go (last_write k (live p es).ops) refl
-        where
-          go : (o : Option V) → last_write k (live p es).ops ≡ o → last_write k (live p es).ops ≡ None
-          go None is = is
-          go (Some v) is = absurd (cc (written_among k (live p es).ops v is, not_among))
+      unwritten = never_written k (live p es).ops not_among
 
       busy_new : Busy new_seat
       busy_new =

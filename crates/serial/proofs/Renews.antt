@@ -1,7 +1,8 @@
 -- renew: one entry of a frozen place is passed, and its lease made to reach the transaction's timestamp where it falls short.
-use Rattle.std.proofs.Common.{◌≡◌, ℕ, zero, suc, ◌+◌, ◌<◌, ◌≤◌, Bool, true, false, cond, ◌||◌, eqb, leb, ◌⊎◌, List, [], ◌∷◌, length, set, Some, None, Ok, Err, Option, Result, sym, refl, ap, ◌∙◌, subst, inl, inr, arith, length-set}
+use Rattle.std.proofs.Common.{◌≡◌, ℕ, ◌+◌, ◌<◌, ◌≤◌, Bool, true, false, cond, ◌||◌, eqb, leb, ◌⊎◌, List, ◌∷◌, length, set, Some, None, Ok, Err, Option, Result, sym, refl, ap, ◌∙◌, subst, inl, inr, arith, length-set}
 use Rattle.std.specs.List.{slice_get}
 use Rattle.std.proofs.ByRecursion.{All-weaker}
+use Rattle.std.proofs.lemmas.Option.{slice_get_within}
 use Rattle.std.proofs.lemmas.Bool.Decides.{eqb_tells, nat_tests}
 use Rattle.home.specs.declared.fault.Fault.{Fault}
 use Rattle.home.specs.declared.row.Row.{Row}
@@ -24,11 +25,6 @@ use Rattle.serial.proofs.Invariant.{Busy, Inv, KeyOk, LeaseOk, Moves, Seat, Seat
 use Rattle.serial.proofs.Moves.{OnlyAt, alike_ok, inv_moves, inv_refused, moved, moved_state, seat_in}
 use Rattle.serial.proofs.Turns.{inv_lost, same_entries}
 use Rattle.serial.proofs.Changes.{free_won, inv_changes, with_row}
-
-nth_low : {A : Type 0} (xs : List A) (j : ℕ) (a : A) → slice_get xs j ≡ Some a → j < length xs
-nth_low [] j a is = cc
-nth_low (b ∷ xs) zero a is = omega arith
-nth_low (b ∷ xs) (suc j) a is = let h = nth_low xs j a is in omega arith
 
 module _ {V : Type 0} where
   -- ---- the row
@@ -118,7 +114,7 @@ module _ {V : Type 0} where
         → (cursor_of here ≡ here.cursor) × (cursor_of here < used_of here) × (used_of here ≤ 16) × (used_of here ≡ here.used)
     limits frozen e is =
         let b = busy frozen in
-        let d = nth_low was (cursor_of here) e is in
+        let d = slice_get_within was (cursor_of here) e is in
         (omega arith, omega arith, omega arith, omega arith)
 
     -- The sheet may have the entry at the cursor anew, under the same key.

@@ -5,7 +5,7 @@
 --   quiet_value, quiet_see          insertion of a transaction that leaves the key alone
 --   write_before, write_after, write_see    insertion of one that may write it, while the later ones do not use the key
 --   sorted_insert, arranged_shuffled     the order
-use Rattle.std.proofs.Common.{◌≡◌, ℕ, ◌<◌, ◌≤◌, max, true, false, cond, ◌||◌, eqb, leb, List, [], ◌∷◌, ◌++◌, set, Some, None, Option, sym, refl, ap, ◌∙◌, subst, arith}
+use Rattle.std.proofs.Common.{◌≡◌, ℕ, ◌<◌, ◌≤◌, max, Bool, true, false, cond, ◌||◌, eqb, leb, List, [], ◌∷◌, ◌++◌, set, Some, None, Option, sym, refl, ap, ◌∙◌, subst, arith}
 use Rattle.std.specs.List.{slice_get, AllByRecursion as All}
 use Rattle.std.specs.List.Sorted.{IsPermutation}
 use Rattle.std.proofs.ByRecursion.{All-weaker}
@@ -14,13 +14,18 @@ use Rattle.std.proofs.lemmas.Grind.{elements}
 use Rattle.std.proofs.lemmas.Option.{gets, slice_get_cases}
 use Rattle.std.proofs.lemmas.List.Sorted.{IsPermutation-refl, IsPermutation-cons, IsPermutation-swap, IsPermutation-trans}
 use Rattle.std.proofs.lemmas.Bool.Decides.{nat_tests}
-use Rattle.serial.specs.Transactions.{Op, reads, writes, Transaction, among, arranged, before, insert, keys_of, last_write, noted}
+use Rattle.serial.specs.Transactions.{Op, reads, writes, Transaction, among, arranged, before, insert, keys_of, last_write, noted, when}
 use Rattle.serial.specs.Serial.{AllBefore, AllGet, Replays, Sorted, run_all, run_ops}
 
 -- A write alters a key that is there.
 abbrev pub over : {A : Type 0} → Option A → A → Option A
 over None v = None
 over (Some x) v = Some v
+
+-- What is never there is absent.
+pub absent : {A : Type 0} (o : Option A) → ((v : A) → o ≡ Some v → ⊥) → o ≡ None
+absent None none = refl
+absent (Some v) none = absurd (none v refl)
 
 -- ---- lists of values
 
@@ -139,6 +144,14 @@ module _ {V : Type 0} where
   written_among k [] v some = cc
   written_among k (reads j w ∷ os) v some = grind (arith, nat_tests, among_noted k j (keys_of os), written_among k os v some)
   written_among k (writes j w ∷ os) v some = grind (arith, nat_tests, among_noted k j (keys_of os), written_among k os v)
+
+  -- What was never met was never written.
+  pub never_written : (k : ℕ) (os : List (Op V)) → among k (keys_of os) ≡ false → last_write k os ≡ None
+  never_written k os none = absent _ (λ v is. cc (written_among k os v is))
+
+  pub when_none : (b : Bool) → when {V = V} b None ≡ None
+  when_none true = refl
+  when_none false = refl
 
   -- ---- up to a timestamp
 

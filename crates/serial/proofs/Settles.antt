@@ -1,6 +1,7 @@
 -- settle: the next key of a place that has won or lost is handled, or the place becomes free.
-use Rattle.std.proofs.Common.{◌≡◌, ℕ, zero, suc, ◌+◌, ◌<◌, ◌≤◌, Bool, true, false, cond, ◌&&◌, eqb, leb, List, [], ◌∷◌, length, Some, None, Ok, Err, Option, Result, sym, refl, ap, ◌∙◌, subst, inl, arith}
+use Rattle.std.proofs.Common.{◌≡◌, ℕ, suc, ◌+◌, ◌<◌, ◌≤◌, Bool, true, false, cond, ◌&&◌, eqb, leb, List, ◌∷◌, length, Some, None, Ok, Err, Option, Result, sym, refl, ap, ◌∙◌, subst, inl, arith}
 use Rattle.std.specs.List.{slice_get, AllByRecursion as All}
+use Rattle.std.proofs.lemmas.Option.{slice_get_within}
 use Rattle.std.proofs.lemmas.Bool.Decides.{nat_tests}
 use Rattle.home.specs.declared.fault.Fault.{Fault}
 use Rattle.home.specs.declared.row.Row.{Row}
@@ -18,15 +19,10 @@ use Rattle.serial.specs.Transactions.{Live, Transaction, among, frees, nothing_d
 use Rattle.serial.proofs.Run.{value_upto}
 use Rattle.serial.proofs.Seats.{entered_ok, place_at, place_range}
 use Rattle.serial.proofs.Keys.{Apart, among_drop, among_here, apart_past, drop_none, keys_apart, nth_found, nth_keyed, nth_keyed_none}
-use Rattle.serial.proofs.Invariant.{Busy, Inv, KeyOk, Moves, Seat, Seated, Stake, bound, by_place, seat_of, standing, undecided, write_of}
+use Rattle.serial.proofs.Invariant.{Busy, Inv, KeyOk, Moves, Seat, Seated, Stake, bound, by_place, seat_of, standing, undecided, write_of, won_open}
 use Rattle.serial.proofs.Moves.{alike_ok, inv_moves, inv_refused, moved, moved_state, other_place, same_place, seat_in}
-use Rattle.serial.proofs.Changes.{held_one, holds_none, inv_changes, loser_won, with_row, won_open}
+use Rattle.serial.proofs.Changes.{held_one, holds_none, inv_changes, loser_won, with_row}
 use Rattle.serial.proofs.Turns.{same_entries}
-
-pub nth_below : {A : Type 0} (xs : List A) (c : ℕ) (a : A) → slice_get xs c ≡ Some a → c < length xs
-nth_below [] c a is = cc
-nth_below (y ∷ xs) zero a is = omega arith
-nth_below (y ∷ xs) (suc c) a is = let h = nth_below xs c a is in omega arith
 
 -- What a settle that ends no hold adds to the puts and to the frees.
 no_put : (b : Bool) (n m : ℕ) → n ≡ 0 → cond b n 0 + m ≡ m
@@ -232,7 +228,7 @@ module _ {V : Type 0} where
           free = λ no'. grind (arith, nat_tests);
           busy = λ _.
               let b = busy in
-              let low = nth_below (sheet p (used_of here) entries) (cursor_of here) e is in
+              let low = slice_get_within (sheet p (used_of here) entries) (cursor_of here) e is in
               record {
                 few = b.few;
                 within = omega arith;

@@ -1,9 +1,9 @@
 -- Each accepted call has its turn in the transaction at its place.
 --   keeps_runs    a transaction runs at a place exactly while the place is engaged, after every call
 --   in_turn       what is accepted is what the transaction may do next
-use Rattle.std.proofs.Common.{◌≡◌, ℕ, zero, suc, ◌+◌, ◌<◌, ◌≤◌, Bool, true, false, cond, ◌&&◌, ◌||◌, eqb, ltb, leb, List, [], ◌∷◌, length, Some, None, Ok, Err, Option, Result, sym, refl, ap, ◌∙◌, subst, arith}
+use Rattle.std.proofs.Common.{◌≡◌, ℕ, ◌+◌, ◌≤◌, Bool, true, false, cond, ◌&&◌, ◌||◌, eqb, ltb, leb, List, ◌∷◌, length, Some, None, Ok, Err, Option, Result, sym, refl, ap, ◌∙◌, subst, arith}
 use lib.ListN.{length-map}
-use Rattle.std.specs.List.{slice_get}
+use Rattle.std.proofs.lemmas.Option.{slice_get_cases, slice_get_within}
 use Rattle.std.proofs.lemmas.Bool.Decides.{nat_tests}
 use Rattle.home.specs.declared.fault.Fault.{Fault}
 use Rattle.home.specs.declared.fault.Refusal.TheVariants.{DayFull, MovedOn, SheetFull, Unchecked}
@@ -17,16 +17,10 @@ use Rattle.coordinator.specs.declared.tables.Entry.{Entry}
 use Rattle.coordinator.specs.Tables.{Tables, at_cursor, count_of, cursor_of, entered, fault_of, put_place, sheet, sought, used_of}
 use Rattle.coordinator.specs.Calls.{Decision, Did, Turn, abort_turn, at_place, begin_turn, by_entry, comparing, comparing_at, decide_turn, deciding, deciding_at, ending, freed, freeze_turn, holding, holding_at, left_after, loses, lost_if, moved_to, moved_on, moving, onward, read_call, reading, reading_new, reading_row, renew_call, renewing, renewing_at, renewing_row, refused, rewriting, settle_call, settling, settling_row, turning, wish_of, write_call, writing}
 use Rattle.serial.specs.Events.{Event, Store, did_abort, did_begin, did_decide, did_freeze, did_read, did_renew, did_settle, did_write, happens, stepped}
-use Rattle.serial.specs.Transactions.{InTurn, Live, Undecided, is_some, keys_of, live, running}
+use Rattle.serial.specs.Transactions.{InTurn, Live, Undecided, keys_of, live, running}
 use Rattle.serial.proofs.Seats.{Entered, entered_ok, place_at, place_other, place_same}
 use Rattle.serial.proofs.Invariant.{Inv, Runs, by_place, engaged}
 use Rattle.serial.proofs.Moves.{other_place, same_place}
-
--- An element is found exactly below the length.
-reached : {A : Type 0} (xs : List A) (c : ℕ) → is_some (slice_get xs c) ≡ ltb c (length xs)
-reached [] c = grind (arith, nat_tests)
-reached (x ∷ xs) zero = grind (arith, nat_tests)
-reached (x ∷ xs) (suc c) = let h = reached xs c in grind (arith, nat_tests)
 
 -- ---- which places are engaged
 
@@ -346,16 +340,10 @@ module _ {V : Type 0} where
         settle_comes st.tables p (λ answer new. InTurn (happens (Call.Settle p) (λ a. did_settle p a.0 a.1) answer) es) (λ fault. tt {0})
         (λ pl en is.
         let f = progress pl en in
-        let far = f.1.0 in
-        let keys = f.1.1 in
-        let size = f.1.2 in
-        let past = sym (ap is_some is) ∙ reached (sheet p (used_of pl) st.tables.entries) (cursor_of pl) in
-        let none : used_of pl ≤ cursor_of pl = grind (arith, nat_tests) in
-        (f.0, (refl, omega arith)))
+        (f.0, (refl, grind (arith, slice_get_cases (sheet p (used_of pl) st.tables.entries) (cursor_of pl)))))
         (λ pl en e is.
         let f = progress pl en in
-        let below = sym (ap is_some is) ∙ reached (sheet p (used_of pl) st.tables.entries) (cursor_of pl) in
-        let some : cursor_of pl < used_of pl = grind (arith, nat_tests) in
+        let low = slice_get_within (sheet p (used_of pl) st.tables.entries) (cursor_of pl) e is in
         (f.0, omega arith))
 
   pub in_turn : (x : ℕ → Option V) (es : List (Event V)) (st : Store V) → Inv x es st → Runs es st → (call : Call V) → InTurn (stepped st call).event es

@@ -1,5 +1,5 @@
 -- write: of a key already written, of one that was read, and of a new one.
-use Rattle.std.proofs.Common.{◌≡◌, ℕ, ◌+◌, ◌<◌, ◌≤◌, min, max, Bool, true, false, cond, not, ◌&&◌, ◌||◌, eqb, List, [], ◌∷◌, ◌++◌, length, set, Some, None, Ok, Err, Option, Result, sym, refl, ap, ◌∙◌, subst, inr, arith, length-set}
+use Rattle.std.proofs.Common.{◌≡◌, ℕ, ◌+◌, ◌<◌, ◌≤◌, min, max, Bool, true, false, cond, not, ◌&&◌, eqb, List, [], ◌∷◌, ◌++◌, length, set, Some, None, Ok, Err, Option, Result, sym, refl, ap, ◌∙◌, subst, inr, arith, length-set}
 use Rattle.std.specs.List.{slice_get}
 use Rattle.std.proofs.lemmas.Bool.Decides.{nat_tests}
 use Rattle.std.proofs.lemmas.List.{length_push}
@@ -17,26 +17,18 @@ use Rattle.coordinator.specs.Tables.{entered, fault_of, put_entry, sheet, sought
 use Rattle.coordinator.specs.Calls.{Did, by_entry, comparing, comparing_at, holding, holding_at, moved_on, refused as away, rewriting, write_call, writing}
 use Rattle.serial.specs.Events.{Event, Store, Step, by_did, did_write, stepped}
 use Rattle.serial.specs.Transactions.{Live, Op, Transaction, among, doing, is_none, is_some, keys_of, last_write, live, noted, one_if, pending_write, serial_order, when, unsettled_write, writes}
-use Rattle.serial.proofs.Run.{Sees, among_noted, sees_skip, written_among}
+use Rattle.serial.proofs.Run.{Sees, among_noted, never_written, sees_skip}
 use Rattle.serial.proofs.Seats.{entered_ok, length_put_entry, place_at, place_range, sheet_other, sheet_push, sheet_set}
 use Rattle.serial.proofs.Keys.{Apart, found, found_among, found_pushed, found_set, found_unpushed, keyed, keyed_push, keyed_set, keys_apart, sought_found, sought_none}
-use Rattle.serial.proofs.Invariant.{Alike, Busy, HoldOk, Inv, KeyOk, LeaseOk, Seat, Seated, Stake, ahead, by_place, seat_of, stake_alike, standing, undecided, write_of}
+use Rattle.serial.proofs.Invariant.{Alike, Busy, HoldOk, Inv, KeyOk, LeaseOk, Seat, Seated, Stake, ahead, by_place, seat_of, stake_alike, standing, undecided, write_of, won_open}
 use Rattle.serial.proofs.Moves.{inv_moves, inv_refused, moved, moved_state, other_place, same_place, seat_in}
 use Rattle.serial.proofs.Turns.{inv_lost}
-use Rattle.serial.proofs.Changes.{free_won, held_one, holds_none, inv_changes, with_row, won_open}
+use Rattle.serial.proofs.Changes.{free_won, held_one, holds_none, inv_changes, with_row}
 use Rattle.serial.proofs.ReadSteps.{is_busy, known_keys, new_keys, no_win, none_handled, not_decided, open_is_last, same_state}
-
--- What was never met was never written.
-never_written : {V : Type 0} (k : ℕ) (os : List (Op V)) → among k (keys_of os) ≡ false → last_write k os ≡ None
-never_written {V} k os none = go (last_write k os) refl
-  where
-    go : (o : Option V) → last_write k os ≡ o → last_write k os ≡ None
-    go None is = is
-    go (Some v) is = absurd (let w = written_among k os v is in cc)
 
 -- A key is among the others as before, once one more is noted.
 among_other : (j k : ℕ) (ks : List ℕ) → (j ≡ k → ⊥) → among j (noted k ks) ≡ among j ks
-among_other j k ks apart = let other : eqb k j ≡ false = grind (arith, nat_tests) in among_noted j k ks ∙ ap (λ b. b || among j ks) other
+among_other j k ks apart = grind (arith, nat_tests, among_noted j k ks)
 
 module _ {V : Type 0} where
   -- ---- what a granted hold says
