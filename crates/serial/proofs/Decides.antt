@@ -17,7 +17,7 @@ use Rattle.coordinator.specs.Tables.{count_of, cursor_of, entered, fault_of, put
 use Rattle.coordinator.specs.Calls.{Decision, decide_turn, deciding, deciding_at, moved_to}
 use Rattle.serial.specs.Events.{Event, Store, Step, by_decision, did_decide, stepped}
 use Rattle.serial.specs.Transactions.{Transaction, among, deciding_now, insert, is_some, keys_of, last_write, live, pending_write, serial_order, when, unsettled_write}
-use Rattle.serial.proofs.Seats.{entered_ok, length_put_place, place_at}
+use Rattle.serial.proofs.Seats.{by_entered, length_put_place, place_at}
 use Rattle.serial.proofs.Keys.{found, found_among}
 use Rattle.serial.proofs.Run.{Newest, Ordered, Quiet, Sees, AfterSkip, all_insert, along, along_skip, along_unwritten, along_written, ordered, quiet_see, quiet_value, sees_skip, sorted_insert, value_upto, write_after, write_before, write_see, written_among}
 use Rattle.serial.proofs.Invariant.{Busy, HoldOk, Inv, KeyOk, Moves, Seat, Seated, Stake, ahead, bound, by_place, seat_of, standing, undecided, void_moves, won_open}
@@ -337,7 +337,10 @@ module _ {V : Type 0} where
 
     pub keeps_decide : Inv x ((stepped st (Call.Decide p)).event ∷ es) (stepped st (Call.Decide p)).store
     unfolding stepped decide_turn
-    keeps_decide = go (entered 6 st.tables.places (length st.tables.entries) p 0) refl
+    keeps_decide =
+        by_entered 6 st.tables.places (length st.tables.entries) p 0 (λ r. Kept (deciding_at st.tables.places st.counter p r))
+        (λ fault _. inv_refused x es st (Call.Decide p) fault i)
+        (λ en. by_tests en.place (grind (arith, nat_tests)) (ltb (cursor_of here) (used_of here)) (eqb (count_of st.counter) 999999) refl refl)
       where
         step : Decision (ℕ × ℕ) → Step V
         step d = by_decision st (Call.Decide p) (λ commit. did_decide p commit.0 commit.1) d
@@ -362,13 +365,3 @@ module _ {V : Type 0} where
         by_tests at frozen true d left full = inv_refused x es st (Call.Decide p) (fault_of Unchecked p 0 0) i
         by_tests at frozen false true left full = inv_refused x es st (Call.Decide p) (fault_of DayFull p 0 0) i
         by_tests at frozen false false left full = decided at frozen (grind (arith, nat_tests)) full
-
-        go : (r : Result Place Fault) → entered 6 st.tables.places (length st.tables.entries) p 0 ≡ r
-            → Kept (deciding_at st.tables.places st.counter p r)
-        go (Err fault) is = inv_refused x es st (Call.Decide p) fault i
-        go (Ok pl) is =
-            let en = entered_ok 6 st.tables.places (length st.tables.entries) p 0 pl is in
-            let same = ap (λ (o : Place). o.state) en.here in
-            let frozen : here.state ≡ 2 = grind (arith, nat_tests) in
-            subst (λ (o : Place). Kept (deciding st.tables.places st.counter p o)) en.here
-            (by_tests en.place frozen (ltb (cursor_of here) (used_of here)) (eqb (count_of st.counter) 999999) refl refl)

@@ -1,5 +1,5 @@
 -- Steps that leave every row and the order alone: one seat moves.
-use Rattle.std.proofs.Common.{◌≡◌, ℕ, ◌≤◌, true, false, cond, eqb, List, ◌∷◌, length, Some, None, Option, sym, ap, ◌∙◌, subst, arith}
+use Rattle.std.proofs.Common.{◌≡◌, ℕ, ◌≤◌, true, false, cond, eqb, List, ◌∷◌, length, Some, None, Ok, Option, sym, ap, ◌∙◌, subst, arith}
 use Rattle.std.specs.List.{slice_get, AllByRecursion as All}
 use Rattle.std.proofs.lemmas.Bool.Decides.{nat_tests}
 use Rattle.home.specs.declared.fault.Fault.{Fault}
@@ -8,11 +8,12 @@ use Rattle.home.specs.Meaning.{Meaning, is_place}
 use Rattle.coordinator.specs.declared.call.Call.{Call}
 use Rattle.coordinator.specs.declared.tables.Place.{Place}
 use Rattle.coordinator.specs.declared.tables.Entry.{Entry}
-use Rattle.coordinator.specs.Tables.{put_place, sheet, used_of}
-use Rattle.serial.specs.Events.{Event, Store, refused}
+use Rattle.coordinator.specs.Tables.{entered, put_place, sheet, used_of}
+use Rattle.coordinator.specs.Calls.{Did, at_place, by_entry, turning}
+use Rattle.serial.specs.Events.{Event, Step, Store, by_did, by_turn, refused}
 use Rattle.serial.specs.Transactions.{Live, Transaction, among, frees, granted, keys_of, live, puts, serial_order, unsettled_write}
 use Rattle.serial.specs.Serial.{Sorted}
-use Rattle.serial.proofs.Seats.{length_put_place, place_at, place_other, place_same}
+use Rattle.serial.proofs.Seats.{Entered, by_entered, length_put_place, place_at, place_other, place_same}
 use Rattle.serial.proofs.Invariant.{Alike, Inv, KeyOk, Moves, Seat, Seated, Stake, VoidOk, key_moves, seat_of, stake_alike, void_moves, won_alike}
 
 -- ---- events of a place
@@ -29,6 +30,28 @@ module _ {V : Type 0} where
   pub inv_refused : (x : ℕ → Option V) (es : List (Event V)) (st : Store V) (call : Call V) (fault : Fault) → Inv x es st → Inv x (refused call fault ∷ es) st
   inv_refused x es st call fault i =
       record { many = i.many; long = i.long; seated = i.seated; keys = i.keys; voids = i.voids; sorted = i.sorted; numbered = i.numbered; limit = i.limit; holds = i.holds }
+
+  -- ---- a call that meets the first tests
+
+  abbrev pub Kept : (ℕ → Option V) → List (Event V) → Step V → Type 0
+  Kept x es step = Inv x (step.event ∷ es) step.store
+
+  module _ (x : ℕ → Option V) (es : List (Event V)) (st : Store V) (i : Inv x es st) {A : Type 0} (call : Call V) (f : A → Event V) (code p key : ℕ) where
+    abbrev LetIn : Type 0
+    LetIn = Entered code st.tables.places (length st.tables.entries) p
+
+    -- One that looks at the home keeps the invariant if its rule does, at the record of its place.
+    pub entry_kept : (rule : Place → Did V A) → (LetIn → Kept x es (by_did st call f (rule (place_at st.tables.places p)))) → Kept x es (by_did st call f (at_place code st.tables p key rule))
+    entry_kept rule kept =
+        by_entered code st.tables.places (length st.tables.entries) p key (λ r. Kept x es (by_did st call f (by_entry st.tables rule r)))
+        (λ fault _. inv_refused x es st call fault i) kept
+
+    -- One that alters its place alone.
+    pub turn_kept : (rule : Place → A × Place) → (LetIn → Kept x es (by_turn st call f (turning st.tables.places p rule (Ok (place_at st.tables.places p)))))
+        → Kept x es (by_turn st call f (turning st.tables.places p rule (entered code st.tables.places (length st.tables.entries) p key)))
+    turn_kept rule kept =
+        by_entered code st.tables.places (length st.tables.entries) p key (λ r. Kept x es (by_turn st call f (turning st.tables.places p rule r)))
+        (λ fault _. inv_refused x es st call fault i) kept
 
   -- ---- seats in the flat tables
 

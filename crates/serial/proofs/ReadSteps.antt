@@ -2,6 +2,7 @@
 use Rattle.std.proofs.Common.{◌≡◌, ℕ, ◌+◌, ◌-◌, ◌<◌, ◌≤◌, max, Bool, true, false, cond, eqb, leb, List, [], ◌∷◌, ◌++◌, length, drop, Some, None, Ok, Err, Option, Result, sym, refl, ap, ◌∙◌, subst, arith}
 use lib.Seq.{set-get_or}
 use Rattle.std.specs.List.{slice_get}
+use Rattle.std.proofs.lemmas.Bool.{cond_both}
 use Rattle.std.proofs.lemmas.Bool.Decides.{nat_tests}
 use Rattle.std.proofs.lemmas.List.{length_push}
 use Rattle.home.specs.declared.fault.Fault.{Fault}
@@ -16,10 +17,10 @@ use Rattle.coordinator.specs.Calls.{Did, by_entry, read_call, reading, reading_n
 use Rattle.serial.specs.Events.{Event, Store, Step, by_did, did_read, stepped}
 use Rattle.serial.specs.Transactions.{Live, Op, among, doing, is_some, keys_of, last_write, live, noted, pending_write, reads, serial_order, when, unsettled_write}
 use Rattle.serial.proofs.Run.{Sees, along, along_unwritten, along_written, among_noted, never_written, sees_skip, value_upto, when_none, written_among}
-use Rattle.serial.proofs.Seats.{blank, entered_ok, length_put_entry, place_at, sheet_other, sheet_push}
+use Rattle.serial.proofs.Seats.{blank, length_put_entry, place_at, sheet_other, sheet_push}
 use Rattle.serial.proofs.Keys.{found, found_among, found_pushed, found_unpushed, keyed, keyed_push, sought_found, sought_none}
 use Rattle.serial.proofs.Invariant.{Alike, Busy, Inv, KeyOk, LeaseOk, Seat, Seated, Stake, by_place, engaged, seat_of, stake_alike, undecided, won_alike, write_of}
-use Rattle.serial.proofs.Moves.{inv_moves, inv_refused, moved, moved_state, other_place, same_place, seat_in}
+use Rattle.serial.proofs.Moves.{Kept, entry_kept, inv_moves, inv_refused, moved, moved_state, other_place, same_place, seat_in}
 use Rattle.serial.proofs.Turns.{same_entries}
 
 pub known_keys : (k : ℕ) (ks : List ℕ) → among k ks ≡ true → noted k ks ≡ ks
@@ -235,32 +236,24 @@ module _ {V : Type 0} where
       go (Some r) is = let same : r ≡ row = cc in ap (λ (o : Row V). Some o) same
 
   module _ (x : ℕ → Option V) (es : List (Event V)) (st : Store V) (i : Inv x es st) (p k : ℕ) where
+    abbrev ReadKept : Did V V → Type 0
+    ReadKept d = Kept x es (by_did st (Call.Read p k) (λ v. did_read p k v) d)
+
+    abbrev pl : Place
+    pl = place_at st.tables.places p
+
+    module _ (at : is_place p ≡ true) (open' : pl.state ≡ 1) where
+      by_row : found k (seat_of st es p).sheet ≡ None → used_of pl < 16 → (r : Result (Row V) Fault) → looked st.tables.home k ≡ r → ReadKept (reading_row st.tables p k pl r)
+      by_row unknown room (Err fault) is = inv_refused x es st (Call.Read p k) _ i
+      by_row unknown room (Ok row) is = read_new x es st p i at open' k row unknown room (looked_row st.tables.home k row is)
+
+      by_sheet : (o : Option (ℕ × Entry V)) → sought k 0 (seat_of st es p).sheet ≡ o → ReadKept (reading st.tables p k pl o)
+      unfolding reading_new
+      by_sheet (Some f) is = read_known x es st p i at open' k f.1 (sought_found k (seat_of st es p).sheet f.0 f.1 is).2
+      by_sheet None is =
+          cond_both (eqb (used_of pl) 16) _ _ ReadKept (λ full. inv_refused x es st (Call.Read p k) _ i)
+          (λ room. by_row (sought_none k 0 (seat_of st es p).sheet is) (grind (arith, nat_tests)) (looked st.tables.home k) refl)
+
     pub keeps_read : Inv x ((stepped st (Call.Read p k)).event ∷ es) (stepped st (Call.Read p k)).store
-    unfolding stepped read_call reading_new
-    keeps_read = go (entered 2 st.tables.places (length st.tables.entries) p k) refl
-      where
-        step : Did V V → Step V
-        step d = by_did st (Call.Read p k) (λ v. did_read p k v) d
-
-        Kept : Did V V → Type 0
-        Kept d = Inv x ((step d).event ∷ es) (step d).store
-
-        by_row : is_place p ≡ true → (place_at st.tables.places p).state ≡ 1 → found k (seat_of st es p).sheet ≡ None → used_of (place_at st.tables.places p) < 16 → (r : Result (Row V) Fault) → looked st.tables.home k ≡ r → Kept (reading_row st.tables p k (place_at st.tables.places p) r)
-        by_row at open' unknown room (Err fault) is = inv_refused x es st (Call.Read p k) _ i
-        by_row at open' unknown room (Ok row) is = read_new x es st p i at open' k row unknown room (looked_row st.tables.home k row is)
-
-        by_room : is_place p ≡ true → (place_at st.tables.places p).state ≡ 1 → found k (seat_of st es p).sheet ≡ None → (full : Bool) → eqb (used_of (place_at st.tables.places p)) 16 ≡ full → Kept (cond full (away st.tables (fault_of SheetFull p k 0)) (reading_row st.tables p k (place_at st.tables.places p) (looked st.tables.home k)))
-        by_room at open' unknown true is = inv_refused x es st (Call.Read p k) _ i
-        by_room at open' unknown false is = by_row at open' unknown (grind (arith, nat_tests)) (looked st.tables.home k) refl
-
-        by_entry' : is_place p ≡ true → (place_at st.tables.places p).state ≡ 1 → (o : Option (ℕ × Entry V)) → sought k 0 (seat_of st es p).sheet ≡ o → Kept (reading st.tables p k (place_at st.tables.places p) o)
-        by_entry' at open' (Some f) is = read_known x es st p i at open' k f.1 (sought_found k (seat_of st es p).sheet f.0 f.1 is).2
-        by_entry' at open' None is = by_room at open' (sought_none k 0 (seat_of st es p).sheet is) (eqb (used_of (place_at st.tables.places p)) 16) refl
-
-        go : (r : Result Place Fault) → entered 2 st.tables.places (length st.tables.entries) p k ≡ r → Kept (by_entry st.tables (λ pl. reading st.tables p k pl (sought k 0 (sheet p (used_of pl) st.tables.entries))) r)
-        go (Err fault) is = inv_refused x es st (Call.Read p k) fault i
-        go (Ok pl) is =
-            let en = entered_ok 2 st.tables.places (length st.tables.entries) p k pl is in
-            let same = ap (λ (o : Place). o.state) en.here in
-            subst (λ (o : Place). Kept (reading st.tables p k o (sought k 0 (sheet p (used_of o) st.tables.entries)))) en.here
-            (by_entry' en.place (grind (arith, nat_tests)) (sought k 0 (seat_of st es p).sheet) refl)
+    unfolding stepped read_call
+    keeps_read = entry_kept x es st i (Call.Read p k) (λ v. did_read p k v) 2 p k _ (λ en. by_sheet en.place (grind (arith, nat_tests)) _ refl)

@@ -19,10 +19,10 @@ use Rattle.coordinator.specs.Calls.{Did, by_entry, left_after, moving, onward, r
 use Rattle.serial.specs.Events.{Event, Store, Step, by_did, did_renew, stepped}
 use Rattle.serial.specs.Transactions.{Transaction, last_write, live, serial_order}
 use Rattle.serial.proofs.Run.{value_upto}
-use Rattle.serial.proofs.Seats.{entered_ok, length_put_entry, place_at, place_range, sheet_other, sheet_set}
+use Rattle.serial.proofs.Seats.{length_put_entry, place_at, place_range, sheet_other, sheet_set}
 use Rattle.serial.proofs.Keys.{Apart, found, found_set, keyed, keyed_set, keys_apart, nth_found}
 use Rattle.serial.proofs.Invariant.{Busy, Inv, KeyOk, LeaseOk, Moves, Seat, Seated, Stake, by_place, seat_of, undecided, write_of}
-use Rattle.serial.proofs.Moves.{OnlyAt, alike_ok, inv_moves, inv_refused, moved, moved_state, seat_in}
+use Rattle.serial.proofs.Moves.{Kept, OnlyAt, alike_ok, entry_kept, inv_moves, inv_refused, moved, moved_state, seat_in}
 use Rattle.serial.proofs.Turns.{inv_lost, same_entries}
 use Rattle.serial.proofs.Changes.{free_won, inv_changes, with_row}
 
@@ -292,7 +292,7 @@ module _ {V : Type 0} where
     -- ---- the rule, stage by stage
 
     abbrev Keeps : Did V ℕ → Type 0
-    Keeps did = Inv x ((by_did st (Call.Renew p) (λ left. did_renew p left) did).event ∷ es) (by_did st (Call.Renew p) (λ left. did_renew p left) did).store
+    Keeps did = Kept x es (by_did st (Call.Renew p) (λ left. did_renew p left) did)
 
     abbrev renewal_of : Entry V → Change V
     renewal_of e = Renew e.wts here.ts (wish_of st.tables.home.last e.key here.ts)
@@ -319,19 +319,4 @@ module _ {V : Type 0} where
   module _ (x : ℕ → Option V) (es : List (Event V)) (st : Store V) (i : Inv x es st) (p : ℕ) where
     pub keeps_renew : Inv x ((stepped st (Call.Renew p)).event ∷ es) (stepped st (Call.Renew p)).store
     unfolding stepped renew_call
-    keeps_renew = go (entered 5 st.tables.places (length st.tables.entries) p 0) refl
-      where
-        rule : Place → Did V ℕ
-        rule pl = renewing st.tables p pl (at_cursor st.tables.entries p pl)
-
-        step : Did V ℕ → Step V
-        step did = by_did st (Call.Renew p) (λ left. did_renew p left) did
-
-        go : (r : Result Place Fault) → entered 5 st.tables.places (length st.tables.entries) p 0 ≡ r
-            → Inv x ((step (by_entry st.tables rule r)).event ∷ es) (step (by_entry st.tables rule r)).store
-        go (Err fault) is = inv_refused x es st (Call.Renew p) fault i
-        go (Ok pl) is =
-            let en = entered_ok 5 st.tables.places (length st.tables.entries) p 0 pl is in
-            let same = ap (λ (o : Place). o.state) en.here in
-            subst (λ (o : Place). Inv x ((step (rule o)).event ∷ es) (step (rule o)).store) en.here
-            (keeps_cursor x es st p i en.place (grind (arith, nat_tests)) _ refl)
+    keeps_renew = entry_kept x es st i (Call.Renew p) (λ left. did_renew p left) 5 p 0 _ (λ en. keeps_cursor x es st p i en.place (grind (arith, nat_tests)) _ refl)

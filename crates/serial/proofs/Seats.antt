@@ -1,16 +1,20 @@
 -- The flat tables, place by place: what a stored place or entry leaves of the places and of their sheets.
 --   place_at places p    the record of place p
 --   Entered              what the tests that come first have found, once they let a call in
-use Rattle.std.proofs.Common.{◌≡◌, ℕ, suc, ◌+◌, ◌-◌, ◌<◌, ◌≤◌, Bool, true, false, cond, List, [], ◌∷◌, ◌++◌, length, get_or, take, drop, set, Some, None, Ok, Err, Option, Result, sym, refl, ap, ◌∙◌, add-one, arith, length-drop, length-set, length-take-le, get_or-set_other, get_or-set_same, take-suc-set, drop-set-lt}
+--   by_entered           a call is refused by those tests, or let in
+use Rattle.std.proofs.Common.{◌≡◌, ℕ, suc, ◌+◌, ◌-◌, ◌<◌, ◌≤◌, Bool, true, false, cond, List, [], ◌∷◌, ◌++◌, length, get_or, take, drop, set, Some, None, Ok, Err, Option, Result, sym, refl, ap, ◌∙◌, subst, add-one, arith, length-drop, length-set, length-take-le, get_or-set_other, get_or-set_same, take-suc-set, drop-set-lt}
 use native.Mathlib.Decide.{dec_lt}
 use lib.Seq.{drop-set-add, take-set-le, take-set-lt}
 use Rattle.std.specs.List.{slice_get}
 use Rattle.std.proofs.lemmas.Option.{slice_get-get_or}
+use Rattle.std.proofs.lemmas.Bool.{cond_both}
 use Rattle.std.proofs.lemmas.Bool.Decides.{nat_tests}
+use Rattle.home.specs.declared.fault.Fault.{Fault}
 use Rattle.home.specs.Meaning.{is_place}
 use Rattle.coordinator.specs.declared.tables.Place.{Place}
 use Rattle.coordinator.specs.declared.tables.Entry.{Entry}
 use Rattle.coordinator.specs.Tables.{admits, base_of, by_state, entered, is_short, put_entry, put_place, sheet}
+use Rattle.coordinator.specs.Calls.{loses}
 
 abbrev pub blank : Place
 blank = record { state = 0; ts = 0; used = 0; cursor = 0 }
@@ -19,49 +23,34 @@ abbrev pub place_at : List Place → ℕ → Place
 place_at places p = get_or places (p - 1) blank
 
 pub place_range : (p : ℕ) → is_place p ≡ true → (1 ≤ p) × (p ≤ 64)
-place_range p is =
-    let low : 1 ≤ p = grind (arith, nat_tests) in
-    let high : p ≤ 64 = grind (arith, nat_tests) in
-    (low, high)
+place_range p is = (grind (arith, nat_tests), grind (arith, nat_tests))
 
 -- ---- what the first tests have found
 
-pub record Entered (code : ℕ) (places : List Place) (n p : ℕ) (pl : Place) : Type 0 where
+pub record Entered (code : ℕ) (places : List Place) (n p : ℕ) : Type 0 where
   pub place : is_place p ≡ true
   pub many : 64 ≤ length places
   pub long : 1024 ≤ n
-  pub here : place_at places p ≡ pl
-  pub admitted : admits code pl.state ≡ true
+  pub was : slice_get places (p - 1) ≡ Some (place_at places p)
+  pub admitted : admits code (place_at places p).state ≡ true
 
--- a test that lets nothing through where it holds, and one that lets nothing through where it fails
-passed_by : {A E : Type 0} (b : Bool) (f : E) (r : Result A E) (x : A) → cond b (Err f) r ≡ Ok x → (b ≡ false) × (r ≡ Ok x)
-passed_by true f r x is = cc
-passed_by false f r x is = (refl, is)
-
-let_in : {A E : Type 0} (b : Bool) (f : E) (r : Result A E) (x : A) → cond b r (Err f) ≡ Ok x → (b ≡ true) × (r ≡ Ok x)
-let_in true f r x is = (refl, is)
-let_in false f r x is = cc
-
-by_state_ok : (code place key : ℕ) (o : Option Place) (pl : Place) → by_state code place key o ≡ Ok pl
-    → (o ≡ Some pl) × (admits code pl.state ≡ true)
-by_state_ok code place key None pl is = cc
-by_state_ok code place key (Some p) pl is =
-    let h = let_in (admits code p.state) _ (Ok p) pl is in
-    let same : p ≡ pl = cc in
-    (ap (λ (x : Place). Some x) same, rw same at h.0)
-
-pub entered_ok : (code : ℕ) (places : List Place) (n place key : ℕ) (pl : Place) → entered code places n place key ≡ Ok pl
-    → Entered code places n place pl
+-- A call is refused by them, and loses nothing, or is let in with the record of its place.
+pub by_entered : (code : ℕ) (places : List Place) (n p key : ℕ) (P : Result Place Fault → Type 0)
+    → ((fault : Fault) → loses fault ≡ false → P (Err fault)) → (Entered code places n p → P (Ok (place_at places p))) → P (entered code places n p key)
 unfolding entered
-entered_ok code places n place key pl is =
-    let a = passed_by (is_short (length places) n) _ _ pl is in
-    let b = let_in (is_place place) _ _ pl a.1 in
-    let c = by_state_ok code place key (slice_get places (place - 1)) pl b.1 in
-    let r = place_range place b.0 in
-    let long : 1024 ≤ n = grind (arith, nat_tests) in
-    let many : 64 ≤ length places = grind (arith, nat_tests) in
-    let read = slice_get-get_or places (place - 1) blank (omega arith) in
-    record { place = b.0; many = many; long = long; here = cc; admitted = c.1 }
+by_entered code places n p key P refusal rule =
+    cond_both (is_short (length places) n) _ _ P (λ _. refusal _ refl)
+    (λ long. cond_both (is_place p) _ _ P (λ at. in_place long at) (λ _. refusal _ refl))
+  where
+    in_place : is_short (length places) n ≡ false → is_place p ≡ true → P (by_state code p key (slice_get places (p - 1)))
+    in_place enough at =
+        let r = place_range p at in
+        let many : 64 ≤ length places = grind (arith, nat_tests) in
+        let was : slice_get places (p - 1) ≡ Some (place_at places p) = slice_get-get_or places (p - 1) blank (omega arith) in
+        subst (λ o. P (by_state code p key o)) (sym was)
+        (cond_both (admits code (place_at places p).state) _ _ P
+        (λ ok. rule (record { place = at; many = many; long = grind (arith, nat_tests); was = was; admitted = ok }))
+        (λ _. refusal _ (grind (arith, nat_tests))))
 
 -- ---- places
 

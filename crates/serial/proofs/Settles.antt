@@ -17,10 +17,10 @@ use Rattle.coordinator.specs.Calls.{Did, ending, freed, left_after, moving, onwa
 use Rattle.serial.specs.Events.{Event, Store, Step, by_did, did_settle, stepped}
 use Rattle.serial.specs.Transactions.{Live, Transaction, among, frees, nothing_done, is_some, keys_of, last_write, live, next_write, one_if, pending_write, puts, serial_order, settling_now, when, unsettled_write, write_at}
 use Rattle.serial.proofs.Run.{value_upto}
-use Rattle.serial.proofs.Seats.{entered_ok, place_at, place_range}
+use Rattle.serial.proofs.Seats.{place_at, place_range}
 use Rattle.serial.proofs.Keys.{Apart, among_drop, among_here, apart_past, drop_none, keys_apart, nth_found, nth_keyed, nth_keyed_none}
 use Rattle.serial.proofs.Invariant.{Busy, Inv, KeyOk, Moves, Seat, Seated, Stake, bound, by_place, seat_of, standing, undecided, write_of, won_open}
-use Rattle.serial.proofs.Moves.{alike_ok, inv_moves, inv_refused, moved, moved_state, other_place, same_place, seat_in}
+use Rattle.serial.proofs.Moves.{Kept, alike_ok, entry_kept, inv_moves, inv_refused, moved, moved_state, other_place, same_place, seat_in}
 use Rattle.serial.proofs.Changes.{held_one, holds_none, inv_changes, loser_won, with_row}
 use Rattle.serial.proofs.Turns.{same_entries}
 
@@ -337,44 +337,27 @@ module _ {V : Type 0} where
 
       -- ---- the call, stage by stage
 
-      abbrev step : Did V (ℕ × Bool) → Step V
-      step d = by_did st (Call.Settle p) (λ answer. did_settle p answer.0 answer.1) d
-
-      abbrev Kept : Did V (ℕ × Bool) → Type 0
-      Kept d = Inv x ((step d).event ∷ es) (step d).store
+      abbrev SettleKept : Did V (ℕ × Bool) → Type 0
+      SettleKept d = Kept x es (by_did st (Call.Settle p) (λ answer. did_settle p answer.0 answer.1) d)
 
       by_row : (e : Entry V) → at_cursor entries p here ≡ Some e → e.written ≡ true
-          → (o : Outcome V) → changed st.tables.home e.key (ending p here e) ≡ o → Kept (settling_row st.tables p here e o)
+          → (o : Outcome V) → changed st.tables.home e.key (ending p here e) ≡ o → SettleKept (settling_row st.tables p here e o)
       by_row e is written (refuses cause) came = inv_refused x es st (Call.Settle p) (fault_at p e.key cause) i
       by_row e is written (grants new) came =
           let g = granted st.tables.home e.key (ending p here e) new came in
           inv_ended e is written g.0 g.1 new g.2
 
       by_written : (e : Entry V) → at_cursor entries p here ≡ Some e → (b : Bool) → e.written ≡ b
-          → Kept (cond b (settling_row st.tables p here e (changed st.tables.home e.key (ending p here e))) (moving st.tables p (left_after here, false) (onward here)))
+          → SettleKept (cond b (settling_row st.tables p here e (changed st.tables.home e.key (ending p here e))) (moving st.tables p (left_after here, false) (onward here)))
       by_written e is true written = by_row e is written _ refl
       by_written e is false written = inv_read e is written
 
-      by_entry : (o : Option (Entry V)) → at_cursor entries p here ≡ o → Kept (settling st.tables p here o)
+      by_entry : (o : Option (Entry V)) → at_cursor entries p here ≡ o → SettleKept (settling st.tables p here o)
       by_entry None is = inv_freed is
       by_entry (Some e) is = by_written e is e.written refl
 
   module _ (x : ℕ → Option V) (es : List (Event V)) (st : Store V) (i : Inv x es st) (p : ℕ) where
     pub keeps_settle : Inv x ((stepped st (Call.Settle p)).event ∷ es) (stepped st (Call.Settle p)).store
     unfolding stepped settle_call
-    keeps_settle = go (entered 7 st.tables.places (length st.tables.entries) p 0) refl
-      where
-        rule : Place → Did V (ℕ × Bool)
-        rule pl = settling st.tables p pl (at_cursor st.tables.entries p pl)
-
-        came : Did V (ℕ × Bool) → Step V
-        came d = by_did st (Call.Settle p) (λ answer. did_settle p answer.0 answer.1) d
-
-        go : (r : Result Place Fault) → entered 7 st.tables.places (length st.tables.entries) p 0 ≡ r
-            → Inv x ((came (Rattle.coordinator.specs.Calls.by_entry st.tables rule r)).event ∷ es) (came (Rattle.coordinator.specs.Calls.by_entry st.tables rule r)).store
-        go (Err fault) is = inv_refused x es st (Call.Settle p) fault i
-        go (Ok pl) is =
-            let en = entered_ok 7 st.tables.places (length st.tables.entries) p 0 pl is in
-            let state = ap (λ (o : Place). o.state) en.here in
-            subst (λ (o : Place). Inv x ((came (rule o)).event ∷ es) (came (rule o)).store) en.here
-            (by_entry x es st p i en.place (grind (arith, nat_tests)) _ refl)
+    keeps_settle =
+        entry_kept x es st i (Call.Settle p) (λ answer. did_settle p answer.0 answer.1) 7 p 0 _ (λ en. by_entry x es st p i en.place (grind (arith, nat_tests)) _ refl)

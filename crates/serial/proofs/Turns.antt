@@ -10,10 +10,10 @@ use Rattle.coordinator.specs.Tables.{admits, entered, sheet}
 use Rattle.coordinator.specs.Calls.{abort_turn, begin_turn, freeze_turn, loses, lost_if, moved_to, turning, with_places}
 use Rattle.serial.specs.Events.{Event, Store, did_abort, did_begin, by_turn, did_freeze, refused, stepped}
 use Rattle.serial.specs.Transactions.{Live, nothing_done, is_some, live, pending_write, unsettled_write}
-use Rattle.serial.proofs.Seats.{entered_ok, place_at, sheet_none}
+use Rattle.serial.proofs.Seats.{place_at, sheet_none}
 use Rattle.serial.proofs.Keys.{found, keyed}
 use Rattle.serial.proofs.Invariant.{Busy, Inv, Seat, seat_of, undecided}
-use Rattle.serial.proofs.Moves.{OnlyAt, Plain, alike_ok, inv_moves, inv_refused, moved, moved_state, other_place, same_place, seat_in}
+use Rattle.serial.proofs.Moves.{OnlyAt, Plain, alike_ok, inv_moves, inv_refused, moved, moved_state, other_place, same_place, seat_in, turn_kept}
 
 module _ {V : Type 0} where
   pub same_entries : (p : ℕ) (entries : List (Entry V)) → OnlyAt p entries entries
@@ -50,9 +50,6 @@ module _ {V : Type 0} where
         n : Seat V
         n = seat_in p (moved_to s here) st.tables.entries (live p es)
 
-    was_undecided : (code : ℕ) (pl : Place) → here ≡ pl → admits code pl.state ≡ true → leb 2 code && leb code 8 ≡ true → eqb code 7 ≡ false → undecided here ≡ true
-    was_undecided code pl is ok range other = let e = ap (λ (o : Place). o.state) is in grind (arith, nat_tests)
-
     -- A refusal by 2 or 5 turns the place to losing.
     pub inv_lost : (call : Call V) (fault : Fault) (pl : Place) → here ≡ pl → undecided pl ≡ true → Inv x (refused call fault ∷ es) (record { tables = with_places st.tables (lost_if fault st.tables.places p pl); counter = st.counter })
     inv_lost call fault pl is was = go (loses fault)
@@ -69,42 +66,23 @@ module _ {V : Type 0} where
   module _ (x : ℕ → Option V) (es : List (Event V)) (st : Store V) (i : Inv x es st) (p : ℕ) where
     pub keeps_freeze : Inv x ((stepped st (Call.Freeze p)).event ∷ es) (stepped st (Call.Freeze p)).store
     unfolding stepped freeze_turn
-    keeps_freeze = go (entered 4 st.tables.places (length st.tables.entries) p 0) refl
-      where
-        step : Result Place Fault → Rattle.serial.specs.Events.Step V
-        step r = by_turn st (Call.Freeze p) (λ ts. did_freeze p ts) (turning st.tables.places p (λ pl. (pl.ts, moved_to 2 pl)) r)
-
-        go : (r : Result Place Fault) → entered 4 st.tables.places (length st.tables.entries) p 0 ≡ r → Inv x ((step r).event ∷ es) (step r).store
-        go (Err fault) is = inv_refused x es st (Call.Freeze p) fault i
-        go (Ok pl) is =
-            let en = entered_ok 4 st.tables.places (length st.tables.entries) p 0 pl is in
-            subst (λ (o : Place). Inv x (did_freeze p o.ts ∷ es) (moved_state st st.tables.home st.counter p (moved_to 2 o) st.tables.entries)) en.here
-            (turned x es st p i en.place (did_freeze p _) (record { order = refl; grants = refl; put = refl; freed = refl }) (λ q. refl) 2 refl (was_undecided x es st p i en.place 4 pl en.here en.admitted refl refl))
+    keeps_freeze =
+        turn_kept x es st i (Call.Freeze p) (λ ts. did_freeze p ts) 4 p 0 _
+        (λ en. turned x es st p i en.place (did_freeze p _) (record { order = refl; grants = refl; put = refl; freed = refl }) (λ q. refl) 2 refl (grind (arith, nat_tests)))
 
     pub keeps_abort : Inv x ((stepped st (Call.Abort p)).event ∷ es) (stepped st (Call.Abort p)).store
     unfolding stepped abort_turn
-    keeps_abort = go (entered 8 st.tables.places (length st.tables.entries) p 0) refl
-      where
-        step : Result Place Fault → Rattle.serial.specs.Events.Step V
-        step r = by_turn st (Call.Abort p) (λ _. did_abort p) (turning st.tables.places p (λ pl. (tt {0}, moved_to 3 pl)) r)
-
-        go : (r : Result Place Fault) → entered 8 st.tables.places (length st.tables.entries) p 0 ≡ r → Inv x ((step r).event ∷ es) (step r).store
-        go (Err fault) is = inv_refused x es st (Call.Abort p) fault i
-        go (Ok pl) is =
-            let en = entered_ok 8 st.tables.places (length st.tables.entries) p 0 pl is in
-            subst (λ (o : Place). Inv x (did_abort p ∷ es) (moved_state st st.tables.home st.counter p (moved_to 3 o) st.tables.entries)) en.here
-            (turned x es st p i en.place (did_abort p) (record { order = refl; grants = refl; put = refl; freed = refl }) (λ q. refl) 3 refl (was_undecided x es st p i en.place 8 pl en.here en.admitted refl refl))
+    keeps_abort =
+        turn_kept x es st i (Call.Abort p) (λ _. did_abort p) 8 p 0 _
+        (λ en. turned x es st p i en.place (did_abort p) (record { order = refl; grants = refl; put = refl; freed = refl }) (λ q. refl) 3 refl (grind (arith, nat_tests)))
 
     -- A place that was free starts with nothing.
     pub keeps_begin : Inv x ((stepped st (Call.Begin p)).event ∷ es) (stepped st (Call.Begin p)).store
     unfolding stepped begin_turn
-    keeps_begin = go (entered 1 st.tables.places (length st.tables.entries) p 0) refl
+    keeps_begin = turn_kept x es st i (Call.Begin p) (λ _. did_begin p) 1 p 0 _ (λ en. begun en.place (grind (arith, nat_tests)))
       where
         fresh : Place
         fresh = record { state = 1; ts = 0; used = 0; cursor = 0 }
-
-        step : Result Place Fault → Rattle.serial.specs.Events.Step V
-        step r = by_turn st (Call.Begin p) (λ _. did_begin p) (turning st.tables.places p (λ pl. (tt {0}, fresh)) r)
 
         none : (k : ℕ) (e : Entry V) → found k (sheet p 0 st.tables.entries) ≡ Some e → ⊥
         none k e is = let h = sym (ap (found k) (sheet_none p st.tables.entries)) ∙ is in cc
@@ -138,10 +116,3 @@ module _ {V : Type 0} where
               wins = λ k. ap (λ (l : Live V). unsettled_write k l) (sym was_idle);
               fresh = λ k is was'. refl;
             })
-
-        go : (r : Result Place Fault) → entered 1 st.tables.places (length st.tables.entries) p 0 ≡ r → Inv x ((step r).event ∷ es) (step r).store
-        go (Err fault) is = inv_refused x es st (Call.Begin p) fault i
-        go (Ok pl) is =
-            let en = entered_ok 1 st.tables.places (length st.tables.entries) p 0 pl is in
-            let same = ap (λ (o : Place). o.state) en.here in
-            begun en.place (grind (arith, nat_tests))

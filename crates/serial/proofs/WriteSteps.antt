@@ -1,6 +1,7 @@
 -- write: of a key already written, of one that was read, and of a new one.
 use Rattle.std.proofs.Common.{◌≡◌, ℕ, ◌+◌, ◌<◌, ◌≤◌, min, max, Bool, true, false, cond, not, ◌&&◌, eqb, List, [], ◌∷◌, ◌++◌, length, set, Some, None, Ok, Err, Option, Result, sym, refl, ap, ◌∙◌, subst, inr, arith, length-set}
 use Rattle.std.specs.List.{slice_get}
+use Rattle.std.proofs.lemmas.Bool.{cond_both}
 use Rattle.std.proofs.lemmas.Bool.Decides.{nat_tests}
 use Rattle.std.proofs.lemmas.List.{length_push}
 use Rattle.home.specs.declared.fault.Fault.{Fault}
@@ -18,10 +19,10 @@ use Rattle.coordinator.specs.Calls.{Did, by_entry, comparing, comparing_at, hold
 use Rattle.serial.specs.Events.{Event, Store, Step, by_did, did_write, stepped}
 use Rattle.serial.specs.Transactions.{Live, Op, Transaction, among, doing, is_none, is_some, keys_of, last_write, live, noted, one_if, pending_write, serial_order, when, unsettled_write, writes}
 use Rattle.serial.proofs.Run.{Sees, among_noted, never_written, sees_skip}
-use Rattle.serial.proofs.Seats.{entered_ok, length_put_entry, place_at, place_range, sheet_other, sheet_push, sheet_set}
+use Rattle.serial.proofs.Seats.{length_put_entry, place_at, place_range, sheet_other, sheet_push, sheet_set}
 use Rattle.serial.proofs.Keys.{Apart, found, found_among, found_pushed, found_set, found_unpushed, keyed, keyed_push, keyed_set, keys_apart, sought_found, sought_none}
 use Rattle.serial.proofs.Invariant.{Alike, Busy, HoldOk, Inv, KeyOk, LeaseOk, Seat, Seated, Stake, ahead, by_place, seat_of, stake_alike, standing, undecided, write_of, won_open}
-use Rattle.serial.proofs.Moves.{inv_moves, inv_refused, moved, moved_state, other_place, same_place, seat_in}
+use Rattle.serial.proofs.Moves.{Kept, entry_kept, inv_moves, inv_refused, moved, moved_state, other_place, same_place, seat_in}
 use Rattle.serial.proofs.Turns.{inv_lost}
 use Rattle.serial.proofs.Changes.{free_won, held_one, holds_none, inv_changes, with_row}
 use Rattle.serial.proofs.ReadSteps.{is_busy, known_keys, new_keys, no_win, none_handled, not_decided, open_is_last, same_state}
@@ -365,25 +366,22 @@ module _ {V : Type 0} where
       go false yes' b same is = cc
 
   module _ (x : ℕ → Option V) (es : List (Event V)) (st : Store V) (i : Inv x es st) (p k : ℕ) (v : V) where
-    abbrev step : Did V ℕ → Step V
-    step d = by_did st (Call.Write p k v) (λ ts. did_write p k v ts) d
-
-    abbrev Kept : Did V ℕ → Type 0
-    Kept d = Inv x ((step d).event ∷ es) (step d).store
+    abbrev WriteKept : Did V ℕ → Type 0
+    WriteKept d = Kept x es (by_did st (Call.Write p k v) (λ ts. did_write p k v ts) d)
 
     module _ (at : is_place p ≡ true) (open' : (place_at st.tables.places p).state ≡ 1) where
       abbrev pl : Place
       pl = place_at st.tables.places p
 
       -- the hold's outcome, where the entry that it writes has its place
-      by_hold : (n used : ℕ) → ((row : Row V) → slice_get st.tables.home.rows k ≡ Some row → row.holder ≡ 0 → Taken x es st p i at open' k v row n used) → (o : Outcome V) → changed st.tables.home k (Hold p) ≡ o → Kept (holding st.tables p k v pl n used o)
+      by_hold : (n used : ℕ) → ((row : Row V) → slice_get st.tables.home.rows k ≡ Some row → row.holder ≡ 0 → Taken x es st p i at open' k v row n used) → (o : Outcome V) → changed st.tables.home k (Hold p) ≡ o → WriteKept (holding st.tables p k v pl n used o)
       by_hold n used taken (refuses cause) is = inv_lost x es st p i at (Call.Write p k v) _ pl refl (grind (arith, nat_tests))
       by_hold n used taken (grants new) is =
           let g = granted-change st.tables.home k (Hold p) new is in
           let h = hold_granted st.tables.home.last p g.0 new g.2 in
-          subst (λ (o : Row V). Kept (holding st.tables p k v pl n used (grants o))) (sym h.1) (write_held x es st p i at open' k v g.0 n used (taken g.0 g.1 h.0) h.0 g.1)
+          subst (λ (o : Row V). WriteKept (holding st.tables p k v pl n used (grants o))) (sym h.1) (write_held x es st p i at open' k v g.0 n used (taken g.0 g.1 h.0) h.0 g.1)
 
-      by_version : (n : ℕ) (e : Entry V) → sought k 0 (seat_of st es p).sheet ≡ Some (n, e) → e.written ≡ false → (o : Option ℕ) → moved_on e.wts (looked st.tables.home k) ≡ o → Kept (comparing st.tables p k v pl n o)
+      by_version : (n : ℕ) (e : Entry V) → sought k 0 (seat_of st es p).sheet ≡ Some (n, e) → e.written ≡ false → (o : Option ℕ) → moved_on e.wts (looked st.tables.home k) ≡ o → WriteKept (comparing st.tables p k v pl n o)
       unfolding holding_at
       by_version n e is read (Some wts) moved' = inv_lost x es st p i at (Call.Write p k v) _ pl refl (grind (arith, nat_tests))
       by_version n e is read None stood =
@@ -391,30 +389,20 @@ module _ {V : Type 0} where
           (λ row row_is free. taken_read x es st p i at open' k v n e is row read free (still_stands e.wts row free (ap (moved_on e.wts) (sym (looked_is st.tables.home k row row_is)) ∙ stood)))
           (changed st.tables.home k (Hold p)) refl
 
-      by_written : (n : ℕ) (e : Entry V) → sought k 0 (seat_of st es p).sheet ≡ Some (n, e) → (b : Bool) → e.written ≡ b → Kept (cond b (rewriting st.tables p pl n e v) (comparing_at st.tables p k v pl n e.wts))
+      by_written : (n : ℕ) (e : Entry V) → sought k 0 (seat_of st es p).sheet ≡ Some (n, e) → (b : Bool) → e.written ≡ b → WriteKept (cond b (rewriting st.tables p pl n e v) (comparing_at st.tables p k v pl n e.wts))
       unfolding comparing_at
       by_written n e is true written = write_again x es st p i at open' k v n e is written
       by_written n e is false read = by_version n e is read (moved_on e.wts (looked st.tables.home k)) refl
 
-      by_room : found k (seat_of st es p).sheet ≡ None → (full : Bool) → eqb (used_of pl) 16 ≡ full → Kept (cond full (away st.tables (fault_of SheetFull p k 0)) (holding_at st.tables p k v pl (used_of pl) (used_of pl + 1)))
+      by_sheet : (o : Option (ℕ × Entry V)) → sought k 0 (seat_of st es p).sheet ≡ o → WriteKept (writing st.tables p k v pl o)
       unfolding holding_at
-      by_room unknown true is = inv_refused x es st (Call.Write p k v) _ i
-      by_room unknown false is =
-          let room : used_of pl < 16 = grind (arith, nat_tests) in
-          by_hold (used_of pl) (used_of pl + 1) (λ row row_is free. taken_new x es st p i at open' k v row unknown room) (changed st.tables.home k (Hold p)) refl
-
-      by_sheet : (o : Option (ℕ × Entry V)) → sought k 0 (seat_of st es p).sheet ≡ o → Kept (writing st.tables p k v pl o)
       by_sheet (Some f) is = by_written f.0 f.1 is f.1.written refl
-      by_sheet None is = by_room (sought_none k 0 (seat_of st es p).sheet is) (eqb (used_of pl) 16) refl
+      by_sheet None is =
+          cond_both (eqb (used_of pl) 16) _ _ WriteKept (λ full. inv_refused x es st (Call.Write p k v) _ i)
+          (λ room. by_hold (used_of pl) (used_of pl + 1)
+          (λ row row_is free. taken_new x es st p i at open' k v row (sought_none k 0 (seat_of st es p).sheet is) (grind (arith, nat_tests)))
+          (changed st.tables.home k (Hold p)) refl)
 
     pub keeps_write : Inv x ((stepped st (Call.Write p k v)).event ∷ es) (stepped st (Call.Write p k v)).store
     unfolding stepped write_call
-    keeps_write = go (entered 3 st.tables.places (length st.tables.entries) p k) refl
-      where
-        go : (r : Result Place Fault) → entered 3 st.tables.places (length st.tables.entries) p k ≡ r → Kept (by_entry st.tables (λ pl. writing st.tables p k v pl (sought k 0 (sheet p (used_of pl) st.tables.entries))) r)
-        go (Err fault) is = inv_refused x es st (Call.Write p k v) fault i
-        go (Ok pl) is =
-            let en = entered_ok 3 st.tables.places (length st.tables.entries) p k pl is in
-            let same = ap (λ (o : Place). o.state) en.here in
-            subst (λ (o : Place). Kept (writing st.tables p k v o (sought k 0 (sheet p (used_of o) st.tables.entries)))) en.here
-            (by_sheet en.place (grind (arith, nat_tests)) (sought k 0 (seat_of st es p).sheet) refl)
+    keeps_write = entry_kept x es st i (Call.Write p k v) (λ ts. did_write p k v ts) 3 p k _ (λ en. by_sheet en.place (grind (arith, nat_tests)) _ refl)
