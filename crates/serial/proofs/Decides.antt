@@ -2,7 +2,7 @@
 --   decided_seat s, commit_of number s    the seat that a decide leaves, and the transaction that it adds
 --   key_decides                           what then holds of a key: it was not touched, read only, or written
 --   keeps_decide                          the invariant after any decide
-use Rattle.std.proofs.Common.{◌≡◌, ℕ, zero, suc, ◌+◌, ◌<◌, ◌≤◌, Bool, true, false, cond, eqb, ltb, leb, List, [], ◌∷◌, length, drop, Some, None, Ok, Err, Option, Result, sym, refl, ap, ◌∙◌, subst, arith}
+use Rattle.std.proofs.Common.{◌≡◌, ℕ, zero, suc, ◌+◌, ◌<◌, ◌≤◌, Bool, true, false, cond, eqb, ltb, leb, List, [], ◌∷◌, length, drop, Some, None, Ok, Err, Option, sym, refl, ap, ◌∙◌, subst, arith}
 use Rattle.std.specs.List.{slice_get}
 use Rattle.std.proofs.ByRecursion.{All-weaker}
 use Rattle.std.proofs.lemmas.Bool.Decides.{nat_tests}
@@ -13,8 +13,8 @@ use Rattle.home.specs.Meaning.{is_place}
 use Rattle.coordinator.specs.declared.call.Call.{Call}
 use Rattle.coordinator.specs.declared.tables.Place.{Place}
 use Rattle.coordinator.specs.declared.tables.Entry.{Entry}
-use Rattle.coordinator.specs.Tables.{count_of, cursor_of, entered, fault_of, put_place, used_of}
-use Rattle.coordinator.specs.Calls.{Decision, decide_turn, deciding, deciding_at, moved_to}
+use Rattle.coordinator.specs.Tables.{count_of, cursor_of, fault_of, put_place, used_of}
+use Rattle.coordinator.specs.Calls.{Decision, decide_turn, deciding_at, moved_to}
 use Rattle.serial.specs.Events.{Event, Store, Step, by_decision, did_decide, stepped}
 use Rattle.serial.specs.Transactions.{Transaction, among, deciding_now, insert, is_some, keys_of, last_write, live, pending_write, serial_order, when, unsettled_write}
 use Rattle.serial.proofs.Seats.{by_entered, length_put_place, place_at}

@@ -1,62 +1,28 @@
 -- Every call obeys the laws of its refusals and of its reach; its rule is taken apart stage by stage.
 --   Fine st call step    the laws of one call, of a step that it may come to
 --   lawful               the laws of every call
-use Rattle.std.proofs.Common.{◌≡◌, ℕ, ◌+◌, ◌-◌, ◌<◌, ◌≤◌, Bool, true, false, cond, eqb, ltb, ◌⊎◌, List, length, Some, None, Ok, Err, Option, Result, sym, refl, ap, ◌∙◌, inl, inr, arith, length-set}
+use Rattle.std.proofs.Common.{◌≡◌, ℕ, ◌+◌, ◌-◌, ◌<◌, ◌≤◌, Bool, true, false, cond, eqb, ltb, ◌⊎◌, List, length, Some, None, Ok, Err, Option, Result, sym, refl, ap, ◌∙◌, subst, inl, inr, arith, length-set}
 use Rattle.std.specs.List.{slice_get}
-use Rattle.std.proofs.lemmas.Option.{slice_get-get_or, slice_get_cases, slice_get_within}
+use Rattle.std.proofs.lemmas.Option.{slice_get_cases, slice_get_within}
+use Rattle.std.proofs.lemmas.Bool.{cond_both}
 use Rattle.std.proofs.lemmas.Bool.Decides.{nat_tests}
 use Rattle.home.specs.declared.fault.Fault.{Fault}
-use Rattle.home.specs.declared.fault.Refusal.TheVariants.{DayFull, MovedOn, NoPlace, PlaceTaken, SheetFull, ShortTable, Unchecked, WrongState}
+use Rattle.home.specs.declared.fault.Refusal.TheVariants.{DayFull, MovedOn, Unchecked}
 use Rattle.home.specs.declared.row.Row.{Row}
 use Rattle.home.specs.declared.row.Cause.{Cause}
-use Rattle.home.specs.declared.row.Change.{Change}
 use Rattle.home.specs.declared.row.Change.TheVariants.{Free, Put}
-use Rattle.home.specs.Rows.{Outcome, refuses, grants, free_row, put_row}
+use Rattle.home.specs.Rows.{Outcome, refuses, grants}
 use Rattle.home.proofs.Laws.{nth_set_other, nth_set_same}
 use Rattle.home.specs.Meaning.{Meaning, after, amended_at, changed, fault_at, found as row-found, is_place, looked, no_place, raised}
 use Rattle.coordinator.specs.declared.call.Call.{Call}
 use Rattle.coordinator.specs.declared.tables.Place.{Place}
 use Rattle.coordinator.specs.declared.tables.Entry.{Entry}
-use Rattle.coordinator.specs.Tables.{admits, at_cursor, base_of, by_state, count_of, cursor_of, entered, fault_of, is_short, put_entry, put_place, sheet, sought, state_refusal, tables, used_of}
-use Rattle.coordinator.specs.Calls.{Decision, Did, abort_turn, begin_turn, by_entry, comparing, comparing_at, decide_turn, deciding_at, ending, freed, freeze_turn, holding, holding_at, left_after, loses, moved_to, moving, onward, read_call, reading, reading_new, reading_row, refused as away, renew_call, renewing, renewing_at, renewing_row, rewriting, settle_call, settling, settling_row, turning, with_places, write_call, writing}
+use Rattle.coordinator.specs.Tables.{at_cursor, base_of, count_of, cursor_of, entered, fault_of, put_entry, put_place, sheet, sought, tables, used_of}
+use Rattle.coordinator.specs.Calls.{Decision, Did, abort_turn, begin_turn, by_entry, comparing, comparing_at, decide_turn, deciding_at, ending, freed, freeze_turn, holding, holding_at, left_after, loses, moved_to, moving, onward, read_call, reading, reading_new, reading_row, renew_call, renewing, renewing_at, renewing_row, rewriting, settle_call, settling, settling_row, turning, with_places, write_call, writing}
 use Rattle.serial.specs.Events.{Event, Store, Step, by_decision, by_did, by_turn, did_abort, did_begin, did_decide, did_freeze, did_read, did_renew, did_settle, did_write, refused, stepped}
 use Rattle.serial.specs.Laws.{Handled, Lawful, OneEntry, Reaches, losing, place_of, raised_by}
-use Rattle.serial.proofs.Seats.{blank, entered_ok, place_range, sheet_length}
+use Rattle.serial.proofs.Seats.{by_entered, place_range, sheet_length}
 use Rattle.serial.proofs.Keys.{sought_found}
-
--- ---- faults that lose nothing
-
--- Refused by what does not lose: the fault does not lose.
-only : {A : Type 0} (given fault : Fault) → ◌≡◌ {A = Result A Fault} (Err given) (Err fault) → loses given ≡ false → loses fault ≡ false
-only given fault is no' = let same : given ≡ fault = cc in ap loses (sym same) ∙ no'
-
--- The first tests refuse by 14, 4, 8 or 9.
-entry_fault : (code : ℕ) (places : List Place) (n p key : ℕ) (fault : Fault) → entered code places n p key ≡ Err fault → loses fault ≡ false
-unfolding entered
-entry_fault code places n p key fault is = by_tables (is_short (length places) n) is
-  where
-    Kept : Result Place Fault → Type 0
-    Kept r = r ≡ Err fault → loses fault ≡ false
-
-    by_code : (b : Bool) (state : ℕ) → Kept (Err (fault_of (cond b PlaceTaken WrongState) p key state))
-    by_code true state is = only {A = Place} _ fault is refl
-    by_code false state is = only {A = Place} _ fault is refl
-
-    by_test : (pl : Place) (b : Bool) → Kept (cond b (Ok pl) (Err (fault_of (state_refusal code) p key pl.state)))
-    by_test pl true is = cc
-    by_test pl false is = by_code (eqb code 1) pl.state is
-
-    by_nth : (o : Option Place) → Kept (by_state code p key o)
-    by_nth None is = only {A = Place} _ fault is refl
-    by_nth (Some pl) is = by_test pl (admits code pl.state) is
-
-    by_place : (b : Bool) → Kept (cond b (by_state code p key (slice_get places (p - 1))) (Err (fault_of NoPlace p key 0)))
-    by_place true is = by_nth _ is
-    by_place false is = only {A = Place} _ fault is refl
-
-    by_tables : (b : Bool) → Kept (cond b (Err (fault_of ShortTable p key 0)) (cond (is_place p) (by_state code p key (slice_get places (p - 1))) (Err (fault_of NoPlace p key 0))))
-    by_tables true is = only {A = Place} _ fault is refl
-    by_tables false is = by_place (is_place p) is
 
 -- ---- what a step may alter of the places
 
@@ -72,43 +38,26 @@ put_places p places pl at =
     (λ i apart. nth_set_other places (p - 1) i pl (λ same. apart (omega arith)), length-set places (p - 1) pl)
 
 module _ {V : Type 0} where
+  -- ---- faults that lose nothing
+
   -- A look is refused by 1.
   look_fault : (m : Meaning V) (key : ℕ) (fault : Fault) → looked m key ≡ Err fault → loses fault ≡ false
   unfolding looked
   look_fault m key fault is = go (slice_get m.rows key) is
     where
       go : (o : Option (Row V)) → raised 0 key (row-found o) ≡ Err fault → loses fault ≡ false
-      go None is = only {A = Row V} _ fault is refl
+      go None is = grind arith
       go (Some row) is = cc
 
   -- A put or a free is refused by 4, 1, 6, 3 or 7.
   ending_fault : (m : Meaning V) (key p : ℕ) (pl : Place) (e : Entry V) (cause : Cause) → changed m key (ending p pl e) ≡ refuses cause → loses (fault_at p key cause) ≡ false
   unfolding changed
-  ending_fault m key p pl e cause is = by_place (eqb pl.state 4) _ is
+  ending_fault m key p pl e cause is = go (eqb pl.state 4) _ _ is
     where
-      Kept : Outcome V → Type 0
-      Kept o = o ≡ refuses cause → loses (fault_at p key cause) ≡ false
-
-      change : Bool → Change V
-      change wins = cond wins (Put p e.value pl.ts) (Free p)
-
-      kept : (given : Cause) → loses (fault_at p key given) ≡ false → Kept (refuses given)
-      kept given no' is = let same : given ≡ cause = cc in ap (λ c. loses (fault_at p key c)) (sym same) ∙ no'
-
-      put : (row : Row V) → Kept (put_row m.last p e.value pl.ts row)
-      put row is = grind (arith, nat_tests)
-
-      free : (row : Row V) → Kept (free_row p row)
-      free row is = grind (arith, nat_tests)
-
-      by_row : (wins : Bool) (o : Option (Row V)) → Kept (amended_at m.last (change wins) o)
-      by_row wins None is = kept _ refl is
-      by_row true (Some row) is = put row is
-      by_row false (Some row) is = free row is
-
-      by_place : (wins b : Bool) → Kept (cond b (amended_at m.last (change wins) (slice_get m.rows key)) (refuses no_place))
-      by_place wins true is = by_row wins _ is
-      by_place wins false is = kept _ refl is
+      go : (wins b : Bool) (o : Option (Row V)) → cond b (amended_at m.last (cond wins (Put p e.value pl.ts) (Free p)) o) (refuses no_place) ≡ refuses cause → loses (fault_at p key cause) ≡ false
+      go true true (Some row) is = grind (arith, nat_tests)
+      go false true (Some row) is = grind (arith, nat_tests)
+      go wins b o is = grind arith
 
   -- ---- the laws of a step
 
@@ -227,51 +176,47 @@ module _ {V : Type 0} where
       pub long : 1024 ≤ length st.tables.entries
       pub was : slice_get st.tables.places (place_of call - 1) ≡ Some pl
 
-    let_in : (code key : ℕ) (pl : Place) → at_first code key ≡ Ok pl → Here pl
-    let_in code key pl is =
-        let en = entered_ok code st.tables.places (length st.tables.entries) (place_of call) key pl is in
-        let r = place_range (place_of call) en.place in
-        let low : place_of call - 1 < length st.tables.places = omega arith in
-        record {
-          place = en.place;
-          long = en.long;
-          was = slice_get-get_or st.tables.places (place_of call - 1) blank low ∙ ap (λ (o : Place). Some o) en.here;
-        }
+    -- It is refused by the first tests, and loses nothing, or goes on by its rule.
+    by_first : (code key : ℕ) (step : Result Place Fault → Step V) → ((fault : Fault) → step (Err fault) ≡ record { event = refused call fault; store = st })
+        → ((pl : Place) → Here pl → Fine st call (step (Ok pl))) → Fine st call (step (at_first code key))
+    by_first code key step refusal rule =
+        by_entered code _ _ (place_of call) key (λ r. Fine st call (step r)) (λ fault no'. subst (Fine st call) (sym (refusal fault)) (stays st call fault no'))
+        (λ en. rule _ (record { place = en.place; long = en.long; was = en.was }))
 
     -- The place alone is altered.
     fine_turn : {A : Type 0} (f : A → Event V) (code : ℕ) (rule : Place → A × Place)
         → ((a : A) → is_refusal (f a) ≡ false) → ((a : A) → raised_by (f a) ≡ 0) → ((a : A) (new : Store V) → OneEntry st new (f a))
-        → (r : Result Place Fault) → at_first code 0 ≡ r → Fine st call (by_turn st call f (turning st.tables.places (place_of call) rule r))
-    fine_turn f code rule accepted level single (Err fault) is = stays st call fault (entry_fault code _ _ _ 0 fault is)
-    fine_turn f code rule accepted level single (Ok pl) is =
-        let h = let_in code 0 pl is in
+        → Fine st call (by_turn st call f (turning st.tables.places (place_of call) rule (at_first code 0)))
+    fine_turn f code rule accepted level single =
+        by_first code 0 (λ r. by_turn st call f (turning st.tables.places (place_of call) rule r)) (λ fault. refl)
+        (λ pl h.
         let none = level (rule pl).0 in
-        accepts st _ call _ (accepted _) (reaches st _ _ _ (put_places _ _ _ h.place) (same_sheets _ _) (same_rows _) (omega arith)) (single _ _)
+        accepts st _ call _ (accepted _) (reaches st _ _ _ (put_places _ _ _ h.place) (same_sheets _ _) (same_rows _) (omega arith)) (single _ _))
 
     -- Calls that look at the home.
     fine_entry : {A : Type 0} (f : A → Event V) (code key : ℕ) (rule : Place → Did V A)
-        → ((pl : Place) → Here pl → Fine st call (by_did st call f (rule pl)))
-        → (r : Result Place Fault) → at_first code key ≡ r → Fine st call (by_did st call f (by_entry st.tables rule r))
-    fine_entry f code key rule fine (Err fault) is = stays st call fault (entry_fault code _ _ _ key fault is)
-    fine_entry f code key rule fine (Ok pl) is = fine pl (let_in code key pl is)
+        → ((pl : Place) → Here pl → Fine st call (by_did st call f (rule pl))) → Fine st call (by_did st call f (by_entry st.tables rule (at_first code key)))
+    fine_entry f code key rule fine = by_first code key (λ r. by_did st call f (by_entry st.tables rule r)) (λ fault. refl) fine
 
   fine_begin : (st : Store V) (p : ℕ) → Fine st (Call.Begin p) (stepped st (Call.Begin p))
   unfolding stepped begin_turn
-  fine_begin st p = fine_turn st (Call.Begin p) (λ _. did_begin p) 1 _ (λ _. refl) (λ _. refl) (λ _ new. tt {0}) _ refl
+  fine_begin st p = fine_turn st (Call.Begin p) (λ _. did_begin p) 1 _ (λ _. refl) (λ _. refl) (λ _ new. tt {0})
 
   fine_freeze : (st : Store V) (p : ℕ) → Fine st (Call.Freeze p) (stepped st (Call.Freeze p))
   unfolding stepped freeze_turn
-  fine_freeze st p = fine_turn st (Call.Freeze p) (λ ts. did_freeze p ts) 4 _ (λ _. refl) (λ _. refl) (λ _ new. tt {0}) _ refl
+  fine_freeze st p = fine_turn st (Call.Freeze p) (λ ts. did_freeze p ts) 4 _ (λ _. refl) (λ _. refl) (λ _ new. tt {0})
 
   fine_abort : (st : Store V) (p : ℕ) → Fine st (Call.Abort p) (stepped st (Call.Abort p))
   unfolding stepped abort_turn
-  fine_abort st p = fine_turn st (Call.Abort p) (λ _. did_abort p) 8 _ (λ _. refl) (λ _. refl) (λ _ new. tt {0}) _ refl
+  fine_abort st p = fine_turn st (Call.Abort p) (λ _. did_abort p) 8 _ (λ _. refl) (λ _. refl) (λ _ new. tt {0})
 
   -- ---- decide
 
   fine_decide : (st : Store V) (p : ℕ) → Fine st (Call.Decide p) (stepped st (Call.Decide p))
   unfolding stepped decide_turn
-  fine_decide st p = go _ refl
+  fine_decide st p =
+      by_first st (Call.Decide p) 6 0 (λ r. step (deciding_at st.tables.places st.counter p r)) (λ fault. refl)
+      (λ pl h. by_tests pl h (ltb (cursor_of pl) (used_of pl)) _ refl)
     where
       step : Decision (ℕ × ℕ) → Step V
       step d = by_decision st (Call.Decide p) (λ commit. did_decide p commit.0 commit.1) d
@@ -295,10 +240,6 @@ module _ {V : Type 0} where
           let below : count_of st.counter ≡ 999999 → ⊥ = grind (arith, nat_tests) in
           accepts st _ _ _ refl (reaches st _ p 1 (put_places _ _ _ h.place) (same_sheets _ _) (same_rows _) (omega arith)) tt
 
-      go : (r : Result Place Fault) → at_first st (Call.Decide p) 6 0 ≡ r → Fine st (Call.Decide p) (step (deciding_at st.tables.places st.counter p r))
-      go (Err fault) is = stays st _ fault (entry_fault 6 _ _ _ 0 fault is)
-      go (Ok pl) is = by_tests pl (let_in st (Call.Decide p) 6 0 pl is) (ltb (cursor_of pl) (used_of pl)) _ refl
-
   -- ---- read
 
   module _ (st : Store V) (p key : ℕ) where
@@ -310,19 +251,14 @@ module _ {V : Type 0} where
       read_row room (Err fault) is = stays st _ _ (look_fault _ key fault is)
       read_row room (Ok row) is = accepts st _ _ _ refl (reaches st _ p 0 (put_places _ _ _ h.place) (put_sheets p _ _ _ room) (same_rows _) (omega arith)) tt
 
-      read_new : (full : Bool) → eqb (used_of pl) 16 ≡ full
-          → ReadFine (cond full (away st.tables (fault_of SheetFull p key 0)) (reading_row st.tables p key pl (looked st.tables.home key)))
-      read_new true is = stays st _ _ refl
-      read_new false is = read_row (grind (arith, nat_tests)) _ refl
-
       read_sheet : (o : Option (ℕ × Entry V)) → ReadFine (reading st.tables p key pl o)
       unfolding reading_new
       read_sheet (Some found) = accepts st st _ _ refl (reaches st st p 0 (same_places _ _) (same_sheets _ _) (same_rows _) (omega arith)) tt
-      read_sheet None = read_new _ refl
+      read_sheet None = cond_both (eqb (used_of pl) 16) _ _ ReadFine (λ full. stays st _ _ refl) (λ room. read_row (grind (arith, nat_tests)) _ refl)
 
     fine_read : Fine st (Call.Read p key) (stepped st (Call.Read p key))
     unfolding stepped read_call
-    fine_read = fine_entry st (Call.Read p key) (λ value. did_read p key value) 2 key _ (λ pl h. read_sheet pl h _) _ refl
+    fine_read = fine_entry st (Call.Read p key) (λ value. did_read p key value) 2 key _ (λ pl h. read_sheet pl h _)
 
   -- ---- write
 
@@ -347,21 +283,18 @@ module _ {V : Type 0} where
       write_known at e low true = accepts st _ _ _ refl (reaches st _ p 0 (same_places _ _) (put_sheets p _ _ _ low) (same_rows _) (omega arith)) tt
       write_known at e low false = write_version at low _
 
-      write_new : (full : Bool) → eqb (used_of pl) 16 ≡ full
-          → WriteFine (cond full (away st.tables (fault_of SheetFull p key 0)) (holding_at st.tables p key value pl (used_of pl) (used_of pl + 1)))
-      unfolding holding_at
-      write_new true is = stays st _ _ refl
-      write_new false is = write_hold (used_of pl) (used_of pl + 1) (grind (arith, nat_tests)) _
-
       write_sheet : (o : Option (ℕ × Entry V)) → sought key 0 (sheet p (used_of pl) st.tables.entries) ≡ o → WriteFine (writing st.tables p key value pl o)
+      unfolding holding_at
       write_sheet (Some found) is =
           let size = sheet_length p (used_of pl) st.tables.entries h.place (omega arith) h.long in
           write_known found.0 found.1 (omega (arith, sought_found key _ found.0 found.1 is)) found.1.written
-      write_sheet None is = write_new _ refl
+      write_sheet None is =
+          cond_both (eqb (used_of pl) 16) _ _ WriteFine (λ full. stays st _ _ refl)
+          (λ room. write_hold (used_of pl) (used_of pl + 1) (grind (arith, nat_tests)) _)
 
     fine_write : Fine st (Call.Write p key value) (stepped st (Call.Write p key value))
     unfolding stepped write_call
-    fine_write = fine_entry st (Call.Write p key value) (λ ts. did_write p key value ts) 3 key _ (λ pl h. write_sheet pl h _ refl) _ refl
+    fine_write = fine_entry st (Call.Write p key value) (λ ts. did_write p key value ts) 3 key _ (λ pl h. write_sheet pl h _ refl)
 
   -- ---- the entry at the cursor
 
@@ -417,7 +350,7 @@ module _ {V : Type 0} where
 
     fine_renew : Fine st (Call.Renew p) (stepped st (Call.Renew p))
     unfolding stepped renew_call
-    fine_renew = fine_entry st (Call.Renew p) (λ left. did_renew p left) 5 0 _ (λ pl h. renew_cursor pl h _ refl) _ refl
+    fine_renew = fine_entry st (Call.Renew p) (λ left. did_renew p left) 5 0 _ (λ pl h. renew_cursor pl h _ refl)
 
   -- ---- settle
 
@@ -450,7 +383,7 @@ module _ {V : Type 0} where
 
     fine_settle : Fine st (Call.Settle p) (stepped st (Call.Settle p))
     unfolding stepped settle_call
-    fine_settle = fine_entry st (Call.Settle p) (λ answer. did_settle p answer.0 answer.1) 7 0 _ (λ pl h. settle_cursor pl h _ refl) _ refl
+    fine_settle = fine_entry st (Call.Settle p) (λ answer. did_settle p answer.0 answer.1) 7 0 _ (λ pl h. settle_cursor pl h _ refl)
 
   -- ---- every call
 

@@ -6,15 +6,14 @@ use Rattle.std.proofs.lemmas.Bool.{cond_both}
 use Rattle.std.proofs.lemmas.Bool.Decides.{nat_tests}
 use Rattle.std.proofs.lemmas.List.{length_push}
 use Rattle.home.specs.declared.fault.Fault.{Fault}
-use Rattle.home.specs.declared.fault.Refusal.TheVariants.{SheetFull}
 use Rattle.home.specs.declared.row.Row.{Row}
 use Rattle.home.specs.Meaning.{Meaning, is_place, looked, raised}
 use Rattle.coordinator.specs.declared.call.Call.{Call}
 use Rattle.coordinator.specs.declared.tables.Place.{Place}
 use Rattle.coordinator.specs.declared.tables.Entry.{Entry}
-use Rattle.coordinator.specs.Tables.{entered, fault_of, put_entry, sheet, sought, used_of}
-use Rattle.coordinator.specs.Calls.{Did, by_entry, read_call, reading, reading_new, reading_row, refused as away}
-use Rattle.serial.specs.Events.{Event, Store, Step, by_did, did_read, stepped}
+use Rattle.coordinator.specs.Tables.{put_entry, sheet, sought, used_of}
+use Rattle.coordinator.specs.Calls.{Did, read_call, reading, reading_new, reading_row}
+use Rattle.serial.specs.Events.{Event, Store, by_did, did_read, stepped}
 use Rattle.serial.specs.Transactions.{Live, Op, among, doing, is_some, keys_of, last_write, live, noted, pending_write, reads, serial_order, when, unsettled_write}
 use Rattle.serial.proofs.Run.{Sees, along, along_unwritten, along_written, among_noted, never_written, sees_skip, value_upto, when_none, written_among}
 use Rattle.serial.proofs.Seats.{blank, length_put_entry, place_at, sheet_other, sheet_push}

@@ -1,10 +1,9 @@
 -- renew: one entry of a frozen place is passed, and its lease made to reach the transaction's timestamp where it falls short.
-use Rattle.std.proofs.Common.{◌≡◌, ℕ, ◌+◌, ◌<◌, ◌≤◌, Bool, true, false, cond, ◌||◌, eqb, leb, ◌⊎◌, List, ◌∷◌, length, set, Some, None, Ok, Err, Option, Result, sym, refl, ap, ◌∙◌, subst, inl, inr, arith, length-set}
+use Rattle.std.proofs.Common.{◌≡◌, ℕ, ◌+◌, ◌<◌, ◌≤◌, Bool, true, false, cond, ◌||◌, eqb, leb, ◌⊎◌, List, ◌∷◌, length, set, Some, None, Option, sym, refl, ap, ◌∙◌, subst, inl, inr, arith, length-set}
 use Rattle.std.specs.List.{slice_get}
 use Rattle.std.proofs.ByRecursion.{All-weaker}
 use Rattle.std.proofs.lemmas.Option.{slice_get_within}
 use Rattle.std.proofs.lemmas.Bool.Decides.{eqb_tells, nat_tests}
-use Rattle.home.specs.declared.fault.Fault.{Fault}
 use Rattle.home.specs.declared.row.Row.{Row}
 use Rattle.home.specs.declared.row.Change.{Change}
 use Rattle.home.specs.declared.row.Change.TheVariants.{Renew}
@@ -14,9 +13,9 @@ use Rattle.home.proofs.Laws.{granted, nth_set_other, nth_set_same}
 use Rattle.coordinator.specs.declared.call.Call.{Call}
 use Rattle.coordinator.specs.declared.tables.Place.{Place}
 use Rattle.coordinator.specs.declared.tables.Entry.{Entry}
-use Rattle.coordinator.specs.Tables.{at_cursor, cursor_of, entered, put_entry, sheet, used_of}
-use Rattle.coordinator.specs.Calls.{Did, by_entry, left_after, moving, onward, renew_call, renewing, renewing_at, renewing_row, wish_of}
-use Rattle.serial.specs.Events.{Event, Store, Step, by_did, did_renew, stepped}
+use Rattle.coordinator.specs.Tables.{at_cursor, cursor_of, put_entry, sheet, used_of}
+use Rattle.coordinator.specs.Calls.{Did, left_after, moving, onward, renew_call, renewing, renewing_at, renewing_row, wish_of}
+use Rattle.serial.specs.Events.{Event, Store, by_did, did_renew, stepped}
 use Rattle.serial.specs.Transactions.{Transaction, last_write, live, serial_order}
 use Rattle.serial.proofs.Run.{value_upto}
 use Rattle.serial.proofs.Seats.{length_put_entry, place_at, place_range, sheet_other, sheet_set}

@@ -2,7 +2,7 @@
 --   place_at places p    the record of place p
 --   Entered              what the tests that come first have found, once they let a call in
 --   by_entered           a call is refused by those tests, or let in
-use Rattle.std.proofs.Common.{◌≡◌, ℕ, suc, ◌+◌, ◌-◌, ◌<◌, ◌≤◌, Bool, true, false, cond, List, [], ◌∷◌, ◌++◌, length, get_or, take, drop, set, Some, None, Ok, Err, Option, Result, sym, refl, ap, ◌∙◌, subst, add-one, arith, length-drop, length-set, length-take-le, get_or-set_other, get_or-set_same, take-suc-set, drop-set-lt}
+use Rattle.std.proofs.Common.{◌≡◌, ℕ, suc, ◌+◌, ◌-◌, ◌<◌, ◌≤◌, true, false, List, [], ◌∷◌, ◌++◌, length, get_or, take, drop, set, Some, Ok, Err, Result, sym, refl, ap, ◌∙◌, subst, add-one, arith, length-drop, length-set, length-take-le, get_or-set_other, get_or-set_same, take-suc-set, drop-set-lt}
 use native.Mathlib.Decide.{dec_lt}
 use lib.Seq.{drop-set-add, take-set-le, take-set-lt}
 use Rattle.std.specs.List.{slice_get}

@@ -1,9 +1,8 @@
 -- settle: the next key of a place that has won or lost is handled, or the place becomes free.
-use Rattle.std.proofs.Common.{◌≡◌, ℕ, suc, ◌+◌, ◌<◌, ◌≤◌, Bool, true, false, cond, ◌&&◌, eqb, leb, List, ◌∷◌, length, Some, None, Ok, Err, Option, Result, sym, refl, ap, ◌∙◌, subst, inl, arith}
+use Rattle.std.proofs.Common.{◌≡◌, ℕ, suc, ◌+◌, ◌<◌, ◌≤◌, Bool, true, false, cond, ◌&&◌, eqb, leb, List, ◌∷◌, Some, None, Option, sym, refl, ap, ◌∙◌, subst, inl, arith}
 use Rattle.std.specs.List.{slice_get, AllByRecursion as All}
 use Rattle.std.proofs.lemmas.Option.{slice_get_within}
 use Rattle.std.proofs.lemmas.Bool.Decides.{nat_tests}
-use Rattle.home.specs.declared.fault.Fault.{Fault}
 use Rattle.home.specs.declared.row.Row.{Row}
 use Rattle.home.specs.declared.row.Change.TheVariants.{Free, Put}
 use Rattle.home.specs.Rows.{Outcome, refuses, grants, amended, free_row, put_row}
@@ -12,9 +11,9 @@ use Rattle.home.proofs.Laws.{granted}
 use Rattle.coordinator.specs.declared.call.Call.{Call}
 use Rattle.coordinator.specs.declared.tables.Place.{Place}
 use Rattle.coordinator.specs.declared.tables.Entry.{Entry}
-use Rattle.coordinator.specs.Tables.{at_cursor, cursor_of, entered, sheet, used_of}
+use Rattle.coordinator.specs.Tables.{at_cursor, cursor_of, sheet, used_of}
 use Rattle.coordinator.specs.Calls.{Did, ending, freed, left_after, moving, onward, settle_call, settling, settling_row}
-use Rattle.serial.specs.Events.{Event, Store, Step, by_did, did_settle, stepped}
+use Rattle.serial.specs.Events.{Event, Store, by_did, did_settle, stepped}
 use Rattle.serial.specs.Transactions.{Live, Transaction, among, frees, nothing_done, is_some, keys_of, last_write, live, next_write, one_if, pending_write, puts, serial_order, settling_now, when, unsettled_write, write_at}
 use Rattle.serial.proofs.Run.{value_upto}
 use Rattle.serial.proofs.Seats.{place_at, place_range}

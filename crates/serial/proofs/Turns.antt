@@ -1,5 +1,5 @@
 -- begin, freeze, abort, and a refusal that loses: the seat moves, and no key is touched.
-use Rattle.std.proofs.Common.{◌≡◌, ℕ, Bool, true, false, cond, ◌&&◌, eqb, leb, List, ◌∷◌, length, Some, Ok, Err, Option, Result, sym, refl, ap, ◌∙◌, subst, arith}
+use Rattle.std.proofs.Common.{◌≡◌, ℕ, Bool, true, false, cond, ◌&&◌, leb, List, ◌∷◌, length, Some, Option, sym, refl, ap, ◌∙◌, subst, arith}
 use Rattle.std.proofs.lemmas.Bool.Decides.{nat_tests}
 use Rattle.home.specs.declared.fault.Fault.{Fault}
 use Rattle.home.specs.Meaning.{is_place}
@@ -7,8 +7,8 @@ use Rattle.coordinator.specs.declared.call.Call.{Call}
 use Rattle.coordinator.specs.declared.tables.Place.{Place}
 use Rattle.coordinator.specs.declared.tables.Entry.{Entry}
 use Rattle.coordinator.specs.Tables.{admits, entered, sheet}
-use Rattle.coordinator.specs.Calls.{abort_turn, begin_turn, freeze_turn, loses, lost_if, moved_to, turning, with_places}
-use Rattle.serial.specs.Events.{Event, Store, did_abort, did_begin, by_turn, did_freeze, refused, stepped}
+use Rattle.coordinator.specs.Calls.{abort_turn, begin_turn, freeze_turn, loses, lost_if, moved_to, with_places}
+use Rattle.serial.specs.Events.{Event, Store, did_abort, did_begin, did_freeze, refused, stepped}
 use Rattle.serial.specs.Transactions.{Live, nothing_done, is_some, live, pending_write, unsettled_write}
 use Rattle.serial.proofs.Seats.{place_at, sheet_none}
 use Rattle.serial.proofs.Keys.{found, keyed}

@@ -1,11 +1,10 @@
 -- write: of a key already written, of one that was read, and of a new one.
-use Rattle.std.proofs.Common.{◌≡◌, ℕ, ◌+◌, ◌<◌, ◌≤◌, min, max, Bool, true, false, cond, not, ◌&&◌, eqb, List, [], ◌∷◌, ◌++◌, length, set, Some, None, Ok, Err, Option, Result, sym, refl, ap, ◌∙◌, subst, inr, arith, length-set}
+use Rattle.std.proofs.Common.{◌≡◌, ℕ, ◌+◌, ◌<◌, ◌≤◌, min, max, Bool, true, false, cond, not, ◌&&◌, eqb, List, [], ◌∷◌, ◌++◌, length, set, Some, None, Ok, Option, sym, refl, ap, ◌∙◌, subst, inr, arith, length-set}
 use Rattle.std.specs.List.{slice_get}
 use Rattle.std.proofs.lemmas.Bool.{cond_both}
 use Rattle.std.proofs.lemmas.Bool.Decides.{nat_tests}
 use Rattle.std.proofs.lemmas.List.{length_push}
-use Rattle.home.specs.declared.fault.Fault.{Fault}
-use Rattle.home.specs.declared.fault.Refusal.TheVariants.{Held, SheetFull, TimeSpent}
+use Rattle.home.specs.declared.fault.Refusal.TheVariants.{Held, TimeSpent}
 use Rattle.home.specs.declared.row.Row.{Row}
 use Rattle.home.specs.declared.row.Change.TheVariants.{Hold}
 use Rattle.home.specs.Rows.{Outcome, because, grants, hold_row, refuses}
@@ -14,9 +13,9 @@ use Rattle.home.proofs.Laws.{granted as granted-change}
 use Rattle.coordinator.specs.declared.call.Call.{Call}
 use Rattle.coordinator.specs.declared.tables.Place.{Place}
 use Rattle.coordinator.specs.declared.tables.Entry.{Entry}
-use Rattle.coordinator.specs.Tables.{entered, fault_of, put_entry, sheet, sought, used_of}
-use Rattle.coordinator.specs.Calls.{Did, by_entry, comparing, comparing_at, holding, holding_at, moved_on, refused as away, rewriting, write_call, writing}
-use Rattle.serial.specs.Events.{Event, Store, Step, by_did, did_write, stepped}
+use Rattle.coordinator.specs.Tables.{put_entry, sheet, sought, used_of}
+use Rattle.coordinator.specs.Calls.{Did, comparing, comparing_at, holding, holding_at, moved_on, rewriting, write_call, writing}
+use Rattle.serial.specs.Events.{Event, Store, by_did, did_write, stepped}
 use Rattle.serial.specs.Transactions.{Live, Op, Transaction, among, doing, is_none, is_some, keys_of, last_write, live, noted, one_if, pending_write, serial_order, when, unsettled_write, writes}
 use Rattle.serial.proofs.Run.{Sees, among_noted, never_written, sees_skip}
 use Rattle.serial.proofs.Seats.{length_put_entry, place_at, place_range, sheet_other, sheet_push, sheet_set}
