@@ -12,8 +12,8 @@ use Rattle.serial.specs.Transactions.{Live, Transaction, among, frees, granted, 
 use Rattle.serial.specs.Serial.{Sorted, held_now}
 use Rattle.serial.proofs.Run.{absent}
 use Rattle.serial.proofs.Seats.{length_put_place, place_range}
-use Rattle.serial.proofs.Invariant.{Alike, Inv, KeyOk, Moves, Seat, Seated, VoidOk, by_place, key_moves, seat_of, stake_alike, void_moves, won_alike, won_open}
-use Rattle.serial.proofs.Moves.{moved_state, seat_in, seated_moves}
+use Rattle.serial.proofs.Invariant.{Alike, Inv, KeyOk, Moves, Seat, Seated, VoidOk, by_place, key_moves, seat_of, stake_alike, void_moves, won_alike, won_open, all_moved, won_moved}
+use Rattle.serial.proofs.Moves.{moved_state, seat_in}
 
 -- One where the row is held.
 abbrev pub held_one : {V : Type 0} → Row V → ℕ
@@ -80,7 +80,7 @@ module _ {V : Type 0} where
         record {
           many = (let h = i.many in let g = length_put_place st.tables.places p pl in omega arith);
           long = (let h = i.long in omega arith);
-          seated = seated_moves es (e ∷ es) st next_state p here_seat i.seated ok.moves ok.seated;
+          seated = all_moved ok.moves (λ q. Seated) ok.seated (λ q at _. i.seated q at);
           keys = λ j r is. subst (λ us. (won : Option (V × ℕ)) × KeyOk j (x j) r us (seat_of next_state (e ∷ es)) won) (sym ok.order) (each j r is);
           voids = λ j is. subst (λ us. VoidOk j (x j) us (seat_of next_state (e ∷ es))) (sym ok.order) (none j is);
           sorted = subst Sorted (sym ok.order) i.sorted;
@@ -100,7 +100,7 @@ module _ {V : Type 0} where
             let was = sym (nth_set_other st.tables.home.rows k j new apart) ∙ is in
             let old = i.keys j r was in
             let a = ok.others j apart in
-            (old.0, key_moves j (x j) r (serial_order es) (seat_of st es) (seat_of next_state (e ∷ es)) old.0 p here_seat at ok.moves (stake_alike j (x j) r (serial_order es) old.0 p (seat_of st es p) here_seat a (old.1.stakes p at)) (won_alike j (seat_of st es p) here_seat a) old.1)
+            (old.0, key_moves j (x j) r (serial_order es) (seat_of st es) (seat_of next_state (e ∷ es)) old.0 p here_seat ok.moves (stake_alike j (x j) r (serial_order es) old.0 p (seat_of st es p) here_seat a (old.1.stakes p at)) (won_alike j (seat_of st es p) here_seat a) old.1)
 
         each : (j : ℕ) (r : Row V) → slice_get (set st.tables.home.rows k new) j ≡ Some r → (won : Option (V × ℕ)) × KeyOk j (x j) r (serial_order es) (seat_of next_state (e ∷ es)) won
         each j r is = by_place (λ m. slice_get (set st.tables.home.rows k new) m ≡ Some r → (won : Option (V × ℕ)) × KeyOk m (x m) r (serial_order es) (seat_of next_state (e ∷ es)) won) k j (here r) (λ apart. there j r apart) is
@@ -114,5 +114,5 @@ module _ {V : Type 0} where
             (λ apart is.
             let was = sym (nth_set_other st.tables.home.rows k j new apart) ∙ is in
             let old = i.voids j was in
-            void_moves j (x j) (serial_order es) (seat_of st es) (seat_of next_state (e ∷ es)) p here_seat at ok.moves (ok.fresh j apart ∙ old.fresh p at) old)
+            void_moves j (x j) (serial_order es) (seat_of st es) (seat_of next_state (e ∷ es)) p here_seat ok.moves (ok.fresh j apart ∙ old.fresh p at) old)
             is

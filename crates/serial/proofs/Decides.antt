@@ -20,8 +20,8 @@ use Rattle.serial.specs.Transactions.{Transaction, among, deciding_now, insert, 
 use Rattle.serial.proofs.Seats.{by_entered, length_put_place, place_at}
 use Rattle.serial.proofs.Keys.{found, found_among}
 use Rattle.serial.proofs.Run.{Newest, Ordered, Quiet, Sees, AfterSkip, all_insert, along, along_skip, along_unwritten, along_written, ordered, quiet_see, quiet_value, sees_skip, sorted_insert, value_upto, write_after, write_before, write_see, written_among}
-use Rattle.serial.proofs.Invariant.{Busy, HoldOk, Inv, KeyOk, Moves, Seat, Seated, Stake, ahead, bound, by_place, seat_of, standing, undecided, void_moves, won_open}
-use Rattle.serial.proofs.Moves.{inv_refused, moved, moved_state, other_place, same_place, seated_moves}
+use Rattle.serial.proofs.Invariant.{Busy, HoldOk, Inv, KeyOk, Moves, Seat, Seated, Stake, ahead, bound, by_place, seat_of, standing, undecided, void_moves, won_open, all_moved, won_moved}
+use Rattle.serial.proofs.Moves.{inv_refused, moved, moved_state, other_place, same_place}
 use Rattle.serial.proofs.Turns.{same_entries}
 use Rattle.serial.proofs.Changes.{holds_it, loser_won}
 
@@ -105,15 +105,8 @@ module _ {V : Type 0} where
 
     -- The decided place has no lease to keep, and the hold that it had.
     stake_decided : (after : Option (V × ℕ)) → ((v : V) → pending_write k (seats p).live ≡ Some v → after ≡ Some (v, (seats p).place.ts))
-        → Stake k x row (insert it us) after p (next p)
-    stake_decided after wins =
-        subst (Stake k x row (insert it us) after p) (sym m.here)
-        (record {
-          owner = (old.stakes p at).owner;
-          seen = λ u e is unwritten. cc;
-          holds = λ u is. cc;
-          wins = wins;
-        })
+        → Stake k x row (insert it us) after p (decided_seat (seats p))
+    stake_decided after wins = record { owner = (old.stakes p at).owner; seen = λ u e is unwritten. cc; holds = λ u is. cc; wins = wins }
 
     -- The key was not written: what stood of it still stands.
     key_left : Quiet k it.ops → pending_write k (seats p).live ≡ None → Sees k (value_upto k x it.ts us) it.ops
@@ -125,29 +118,11 @@ module _ {V : Type 0} where
           quiet = all_insert (Skips won) it us skips old.quiet;
           sees = quiet_see k x it us quiet order newest old.sees sees;
           above = old.above;
-          winner = λ w is. still w (old.winner w is);
-          stakes = λ q here.
-              by_place (λ r. is_place r ≡ true → Stake k x row (insert it us) won r (next r)) p q
-              (λ _. stake_decided won (λ v is. cc))
-              (λ apart here.
-              subst (Stake k x row (insert it us) won q) (sym (m.others q here apart))
-              (stake_grows k x row us (insert it us) won won q (seats q) (λ τ _. quiet_value k x τ it us quiet)
-              (old.stakes q here).wins (old.stakes q here)))
-              here;
+          winner = λ w is. won_moved m k w.0 (λ was. absurd (let o = won_open k (seats p).live w.0 was in cc)) (old.winner w is);
+          stakes = all_moved m (Stake k x row (insert it us) won) (stake_decided won (λ v is. cc))
+              (λ q here _. stake_grows k x row us (insert it us) won won q (seats q) (λ τ _. quiet_value k x τ it us quiet) (old.stakes q here).wins (old.stakes q here));
           holder = old.holder;
         }
-      where
-        -- an undecided place was no winner
-        still : (w : V × ℕ) → (q : ℕ) × (is_place q ≡ true) × (unsettled_write k (seats q).live ≡ Some w.0)
-            → (q : ℕ) × (is_place q ≡ true) × (unsettled_write k (next q).live ≡ Some w.0)
-        still w was = (
-          was.0,
-          was.1,
-          by_place (λ r. is_place r ≡ true → unsettled_write k (seats r).live ≡ Some w.0 → unsettled_write k (next r).live ≡ Some w.0) p was.0
-              (λ _ is. absurd (let o = (won_open k (seats p).live w.0 is).1 in cc))
-              (λ apart here is. ap (λ (s : Seat V). unsettled_write k s.live) (m.others was.0 here apart) ∙ is)
-              was.1 was.2,
-        )
 
     -- The key was not touched.
     key_skipped : among k (keys_of it.ops) ≡ false → KeyOk k x row (insert it us) next won
@@ -183,16 +158,13 @@ module _ {V : Type 0} where
           sees = write_see k x it us skips order newest old.sees (subst (λ (o : Option V). Sees k o it.ops) (sym stood) hold.sees);
           above = above;
           winner = λ w same. (p, at, ap (λ (s : Seat V). unsettled_write k s.live) m.here ∙ opens ∙ ap (λ (o : V × ℕ). Some o.0) (pair w same));
-          stakes = λ q here.
-              by_place (λ r. is_place r ≡ true → Stake k x row (insert it us) (Some (v, it.ts)) r (next r)) p q
-              (λ _. stake_decided (Some (v, it.ts)) (λ w is'. ap (λ (a : V). Some (a, it.ts)) (value w is')))
-              (λ apart here.
-              subst (Stake k x row (insert it us) (Some (v, it.ts)) q) (sym (m.others q here apart))
-              (stake_grows k x row us (insert it us) won (Some (v, it.ts)) q (seats q)
+          stakes = all_moved m (Stake k x row (insert it us) (Some (v, it.ts)))
+              (stake_decided (Some (v, it.ts)) (λ w is'. ap (λ (a : V). Some (a, it.ts)) (value w is')))
+              (λ q here apart.
+              stake_grows k x row us (insert it us) won (Some (v, it.ts)) q (seats q)
               (λ τ low. write_before k x τ it us (omega (arith, above)))
               (λ w is'. absurd (apart (sym (holds_it k x row us seats won old q here (ap is_some (won_open k (seats q).live w is').1)) ∙ mine)))
-              (old.stakes q here)))
-              here;
+              (old.stakes q here));
           holder = old.holder;
         }
       where
@@ -314,7 +286,7 @@ module _ {V : Type 0} where
           record {
             many = (let h = i.many in let g = length_put_place st.tables.places p (moved_to 4 here) in omega arith);
             long = i.long;
-            seated = seated_moves es (event ∷ es) st next_state p (decided_seat seat) i.seated moves seated_decided;
+            seated = all_moved moves (λ q. Seated) seated_decided (λ q at _. i.seated q at);
             keys = λ k row is.
                 let old = i.keys k row is in
                 key_decides k (x k) row (serial_order es) (seat_of st es) next_seats old.0 p number at moves busy frozen
@@ -324,7 +296,7 @@ module _ {V : Type 0} where
                 let none = old.fresh p at in
                 let skips =
                 all_insert (λ (t : Transaction V). among k (keys_of t.ops) ≡ false) (commit_of number seat) (serial_order es) none old.skipped in
-                void_moves k (x k) (serial_order (event ∷ es)) (seat_of st es) next_seats p (decided_seat seat) at moves none
+                void_moves k (x k) (serial_order (event ∷ es)) (seat_of st es) next_seats p (decided_seat seat) moves none
                 (record { none = old.none; skipped = skips; fresh = old.fresh });
             sorted = sorted_insert (commit_of number seat) (serial_order es) i.sorted newest;
             numbered =

@@ -184,10 +184,26 @@ module _ {V : Type 0} where
     pub here : next p ≡ n
     pub others : (q : ℕ) → is_place q ≡ true → (q ≡ p → ⊥) → next q ≡ seats q
 
+  -- What holds of the new seat, and of the others as they were, holds of every seat.
+  pub all_moved : {seats next : ℕ → Seat V} {p : ℕ} {n : Seat V} → Moves seats next p n → (P : ℕ → Seat V → Type 0) → P p n
+      → ((q : ℕ) → is_place q ≡ true → (q ≡ p → ⊥) → P q (seats q)) → (q : ℕ) → is_place q ≡ true → P q (next q)
+  all_moved {seats} {next} {p} {n} m P here there q at =
+      by_place (λ r. is_place r ≡ true → P r (next r)) p q (λ _. subst (P p) (sym m.here) here)
+      (λ apart at. subst (P q) (sym (m.others q at apart)) (there q at apart)) at
+
+  -- Where a write that won is.
+  abbrev pub WonBy : ℕ → V → (ℕ → Seat V) → Type 0
+  WonBy k v seats = (p : ℕ) × (is_place p ≡ true) × (unsettled_write k (seats p).live ≡ Some v)
+
+  pub won_moved : {seats next : ℕ → Seat V} {p : ℕ} {n : Seat V} → Moves seats next p n → (k : ℕ) (v : V)
+      → (unsettled_write k (seats p).live ≡ Some v → unsettled_write k n.live ≡ Some v) → WonBy k v seats → WonBy k v next
+  won_moved {seats} m k v still won =
+      (won.0, won.1, all_moved m (λ q (s : Seat V). unsettled_write k (seats q).live ≡ Some v → unsettled_write k s.live ≡ Some v) still (λ q at apart is. is) won.0 won.1 won.2)
+
+  -- A key keeps what holds of it where one seat moves and neither its row nor the order changes.
   module _ (k : ℕ) (x : Option V) (row : Row V) (us : List (Transaction V)) (seats next : ℕ → Seat V) (won : Option (V × ℕ)) (p : ℕ) (n : Seat V) where
-    -- A key keeps what holds of it where one seat moves and neither its row nor the order changes.
-    pub key_moves : is_place p ≡ true → Moves seats next p n → Stake k x row us won p n → unsettled_write k n.live ≡ unsettled_write k (seats p).live → KeyOk k x row us seats won → KeyOk k x row us next won
-    key_moves place m stake write old =
+    pub key_moves : Moves seats next p n → Stake k x row us won p n → unsettled_write k n.live ≡ unsettled_write k (seats p).live → KeyOk k x row us seats won → KeyOk k x row us next won
+    key_moves m stake write old =
         record {
           fair = old.fair;
           stands = old.stands;
@@ -195,18 +211,11 @@ module _ {V : Type 0} where
           sees = old.sees;
           above = old.above;
           holder = old.holder;
-          winner = λ w is. won_still w (old.winner w is);
-          stakes = λ q at. by_place (λ r. is_place r ≡ true → Stake k x row us won r (next r)) p q (λ _. subst (Stake k x row us won p) (sym m.here) stake) (λ apart at. subst (Stake k x row us won q) (sym (m.others q at apart)) (old.stakes q at)) at;
+          winner = λ w is. won_moved m k w.0 (λ was. write ∙ was) (old.winner w is);
+          stakes = all_moved m (Stake k x row us won) stake (λ q at _. old.stakes q at);
         }
-      where
-        won_still : (w : V × ℕ) → (q : ℕ) × (is_place q ≡ true) × (unsettled_write k (seats q).live ≡ Some w.0) → (q : ℕ) × (is_place q ≡ true) × (unsettled_write k (next q).live ≡ Some w.0)
-        won_still w old = (old.0, old.1, by_place (λ r. is_place r ≡ true → unsettled_write k (seats r).live ≡ Some w.0 → unsettled_write k (next r).live ≡ Some w.0) p old.0 (λ _ is. ap (λ (s : Seat V). unsettled_write k s.live) m.here ∙ write ∙ is) (λ apart at is. ap (λ (s : Seat V). unsettled_write k s.live) (m.others old.0 at apart) ∙ is) old.1 old.2)
 
   module _ (k : ℕ) (x : Option V) (us : List (Transaction V)) (seats next : ℕ → Seat V) (p : ℕ) (n : Seat V) where
-    pub void_moves : is_place p ≡ true → Moves seats next p n → among k (keys_of n.live.ops) ≡ false → VoidOk k x us seats → VoidOk k x us next
-    void_moves place m none old =
-        record {
-          none = old.none;
-          skipped = old.skipped;
-          fresh = λ q at. by_place (λ r. is_place r ≡ true → among k (keys_of (next r).live.ops) ≡ false) p q (λ _. ap (λ (s : Seat V). among k (keys_of s.live.ops)) m.here ∙ none) (λ apart at. ap (λ (s : Seat V). among k (keys_of s.live.ops)) (m.others q at apart) ∙ old.fresh q at) at;
-        }
+    pub void_moves : Moves seats next p n → among k (keys_of n.live.ops) ≡ false → VoidOk k x us seats → VoidOk k x us next
+    void_moves m none old =
+        record { none = old.none; skipped = old.skipped; fresh = all_moved m (λ q (s : Seat V). among k (keys_of s.live.ops) ≡ false) none (λ q at _. old.fresh q at) }

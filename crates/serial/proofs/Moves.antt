@@ -14,7 +14,7 @@ use Rattle.serial.specs.Events.{Event, Step, Store, by_did, by_turn, refused}
 use Rattle.serial.specs.Transactions.{Live, Transaction, among, frees, granted, keys_of, live, puts, serial_order, unsettled_write}
 use Rattle.serial.specs.Serial.{Sorted}
 use Rattle.serial.proofs.Seats.{Entered, by_entered, length_put_place, place_at, place_other, place_same}
-use Rattle.serial.proofs.Invariant.{Alike, Inv, KeyOk, Moves, Seat, Seated, Stake, VoidOk, key_moves, seat_of, stake_alike, void_moves, won_alike}
+use Rattle.serial.proofs.Invariant.{Alike, Inv, KeyOk, Moves, Seat, Seated, Stake, VoidOk, key_moves, seat_of, stake_alike, void_moves, won_alike, all_moved, won_moved}
 
 -- ---- events of a place
 
@@ -98,19 +98,15 @@ module _ {V : Type 0} where
     pub put : puts (e ∷ es) ≡ puts es
     pub freed : frees (e ∷ es) ≡ frees es
 
-  pub seated_moves : (es new : List (Event V)) (st next : Store V) (p : ℕ) (n : Seat V) → ((q : ℕ) → is_place q ≡ true → Seated (seat_of st es q)) → Moves (seat_of st es) (seat_of next new) p n → Seated n → (q : ℕ) → is_place q ≡ true → Seated (seat_of next new q)
-  seated_moves es new st next p n old m here q at =
-      Rattle.serial.proofs.Invariant.by_place (λ r. is_place r ≡ true → Seated (seat_of next new r)) p q (λ _. subst Seated (sym m.here) here) (λ apart at. subst Seated (sym (m.others q at apart)) (old q at)) at
-
   module _ (x : ℕ → Option V) (es : List (Event V)) (st : Store V) (e : Event V) (p : ℕ) (pl : Place) (entries : List (Entry V)) (l : Live V) where
     pub inv_moves : Inv x es st → Plain es e → is_place p ≡ true → length entries ≡ length st.tables.entries → Moves (seat_of st es) (seat_of (moved_state st st.tables.home st.counter p pl entries) (e ∷ es)) p (seat_in p pl entries l) → MovedOk x es st p (seat_in p pl entries l) → Inv x (e ∷ es) (moved_state st st.tables.home st.counter p pl entries)
     inv_moves i plain at long m ok =
         record {
           many = (let h = i.many in let g = length_put_place st.tables.places p pl in omega arith);
           long = (let h = i.long in omega arith);
-          seated = seated_moves es (e ∷ es) st next p n i.seated m ok.seated;
-          keys = λ k row is. ((i.keys k row is).0, subst (λ us. KeyOk k (x k) row us (seat_of next (e ∷ es)) (i.keys k row is).0) (sym plain.order) (key_moves k (x k) row (serial_order es) (seat_of st es) (seat_of next (e ∷ es)) (i.keys k row is).0 p n at m (ok.stakes k row (i.keys k row is).0 is (i.keys k row is).1) (ok.wins k) (i.keys k row is).1));
-          voids = λ k is. subst (λ us. VoidOk k (x k) us (seat_of next (e ∷ es))) (sym plain.order) (void_moves k (x k) (serial_order es) (seat_of st es) (seat_of next (e ∷ es)) p n at m (ok.fresh k is ((i.voids k is).fresh p at)) (i.voids k is));
+          seated = all_moved m (λ q. Seated) ok.seated (λ q at _. i.seated q at);
+          keys = λ k row is. ((i.keys k row is).0, subst (λ us. KeyOk k (x k) row us (seat_of next (e ∷ es)) (i.keys k row is).0) (sym plain.order) (key_moves k (x k) row (serial_order es) (seat_of st es) (seat_of next (e ∷ es)) (i.keys k row is).0 p n m (ok.stakes k row (i.keys k row is).0 is (i.keys k row is).1) (ok.wins k) (i.keys k row is).1));
+          voids = λ k is. subst (λ us. VoidOk k (x k) us (seat_of next (e ∷ es))) (sym plain.order) (void_moves k (x k) (serial_order es) (seat_of st es) (seat_of next (e ∷ es)) p n m (ok.fresh k is ((i.voids k is).fresh p at)) (i.voids k is));
           sorted = subst Sorted (sym plain.order) i.sorted;
           numbered = subst (All (λ (t : Transaction V). t.number ≤ st.counter)) (sym plain.order) i.numbered;
           limit = i.limit;

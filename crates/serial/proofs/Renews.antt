@@ -20,7 +20,7 @@ use Rattle.serial.specs.Transactions.{Transaction, last_write, live, serial_orde
 use Rattle.serial.proofs.Run.{value_upto}
 use Rattle.serial.proofs.Seats.{length_put_entry, place_at, place_range, sheet_other, sheet_set}
 use Rattle.serial.proofs.Keys.{Apart, found, found_set, keyed, keyed_set, keys_apart, nth_found}
-use Rattle.serial.proofs.Invariant.{Busy, Inv, KeyOk, LeaseOk, Moves, Seat, Seated, Stake, by_place, seat_of, undecided, write_of}
+use Rattle.serial.proofs.Invariant.{Busy, Inv, KeyOk, LeaseOk, Moves, Seat, Seated, Stake, by_place, seat_of, undecided, write_of, all_moved, won_moved}
 use Rattle.serial.proofs.Moves.{Kept, OnlyAt, alike_ok, entry_kept, inv_moves, inv_refused, moved, moved_state, seat_in}
 use Rattle.serial.proofs.Turns.{inv_lost, same_entries}
 use Rattle.serial.proofs.Changes.{free_won, inv_changes, with_row}
@@ -86,10 +86,7 @@ module _ {V : Type 0} where
           sees = old.sees;
           above = tt;
           winner = λ w is. cc;
-          stakes = λ q at'. by_place (λ o. is_place o ≡ true → Stake k x new us None o (next o)) p q
-              (λ _. subst (Stake k x new us None p) (sym m.here) stake)
-              (λ apart there. subst (Stake k x new us None q) (sym (m.others q there apart)) (stake_other q there (seats q) (old.stakes q there)))
-              at';
+          stakes = all_moved m (Stake k x new us None) stake (λ q there _. stake_other q there (seats q) (old.stakes q there));
           holder = inl r.holder;
         }
 

@@ -18,7 +18,7 @@ use Rattle.serial.specs.Transactions.{Live, Transaction, among, frees, nothing_d
 use Rattle.serial.proofs.Run.{value_upto}
 use Rattle.serial.proofs.Seats.{place_at, place_range}
 use Rattle.serial.proofs.Keys.{Apart, among_drop, among_here, apart_past, drop_none, keys_apart, nth_found, nth_keyed, nth_keyed_none}
-use Rattle.serial.proofs.Invariant.{Busy, Inv, KeyOk, Moves, Seat, Seated, Stake, bound, by_place, seat_of, standing, undecided, write_of, won_open}
+use Rattle.serial.proofs.Invariant.{Busy, Inv, KeyOk, Moves, Seat, Seated, Stake, bound, by_place, seat_of, standing, undecided, write_of, won_open, all_moved, won_moved}
 use Rattle.serial.proofs.Moves.{Kept, alike_ok, entry_kept, inv_moves, inv_refused, moved, moved_state, other_place, same_place, seat_in}
 use Rattle.serial.proofs.Changes.{held_one, holds_none, inv_changes, loser_won, with_row}
 use Rattle.serial.proofs.Turns.{same_entries}
@@ -117,9 +117,7 @@ module _ {V : Type 0} where
           sees = old.sees;
           above = tt;
           winner = λ w is. cc;
-          stakes = λ q is. by_place (λ r. is_place r ≡ true → Stake k x new us None r (next r)) p q
-              (λ _. subst (Stake k x new us None p) (sym m.here) here)
-              (λ apart is. subst (Stake k x new us None q) (sym (m.others q is apart)) (there q is apart)) is;
+          stakes = all_moved m (Stake k x new us None) here there;
           holder = inl r.free;
         }
       where
