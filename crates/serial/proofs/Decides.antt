@@ -2,7 +2,7 @@
 --   decided_seat s, commit_of number s    the seat that a decide leaves, and the transaction that it adds
 --   key_decides                           what then holds of a key: it was not touched, read only, or written
 --   keeps_decide                          the invariant after any decide
-use Rattle.std.proofs.Common.{◌≡◌, ℕ, zero, suc, ◌+◌, ◌<◌, ◌≤◌, Bool, true, false, cond, eqb, ltb, leb, List, [], ◌∷◌, length, drop, Some, None, Ok, Err, Option, sym, refl, ap, ◌∙◌, subst, arith}
+use Rattle.std.proofs.Common.{◌≡◌, ℕ, zero, suc, ◌+◌, ◌<◌, ◌≤◌, Bool, true, false, cond, eqb, ltb, leb, List, [], ◌∷◌, length, Some, None, Ok, Err, Option, sym, refl, ap, ◌∙◌, subst, arith}
 use Rattle.std.specs.List.{slice_get}
 use Rattle.std.proofs.ByRecursion.{All-weaker}
 use Rattle.std.proofs.lemmas.Bool.Decides.{nat_tests}
@@ -16,11 +16,11 @@ use Rattle.coordinator.specs.declared.tables.Entry.{Entry}
 use Rattle.coordinator.specs.Tables.{count_of, cursor_of, fault_of, put_place, used_of}
 use Rattle.coordinator.specs.Calls.{Decision, decide_turn, deciding_at, moved_to}
 use Rattle.serial.specs.Events.{Event, Store, Step, by_decision, did_decide, stepped}
-use Rattle.serial.specs.Transactions.{Transaction, among, deciding_now, insert, is_some, keys_of, last_write, live, pending_write, serial_order, when, unsettled_write}
+use Rattle.serial.specs.Transactions.{Transaction, among, deciding_now, insert, is_some, keys_of, last_write, live, pending_write, serial_order, unsettled_write}
 use Rattle.serial.proofs.Seats.{by_entered, length_put_place, place_at}
-use Rattle.serial.proofs.Keys.{found, found_among}
-use Rattle.serial.proofs.Run.{Newest, Ordered, Quiet, Sees, AfterSkip, all_insert, along, along_skip, along_unwritten, along_written, ordered, quiet_see, quiet_value, sees_skip, sorted_insert, value_upto, write_after, write_before, write_see, written_among}
-use Rattle.serial.proofs.Invariant.{Busy, HoldOk, Inv, KeyOk, Moves, Seat, Seated, Stake, ahead, bound, by_place, seat_of, standing, undecided, void_moves, won_open, all_moved, won_moved}
+use Rattle.serial.proofs.Keys.{found}
+use Rattle.serial.proofs.Run.{Newest, Ordered, Quiet, Sees, AfterSkip, all_insert, along, along_skip, along_unwritten, along_written, ordered, quiet_see, quiet_value, sees_skip, sorted_insert, value_upto, write_after, write_before, write_see, open_is_last, never_written}
+use Rattle.serial.proofs.Invariant.{Busy, HoldOk, Inv, KeyOk, Moves, Seat, Seated, Stake, ahead, bound, seat_of, standing, undecided, void_moves, won_open, all_moved, won_moved, met}
 use Rattle.serial.proofs.Moves.{inv_refused, moved, moved_state, other_place, same_place}
 use Rattle.serial.proofs.Turns.{same_entries}
 use Rattle.serial.proofs.Changes.{holds_it, loser_won}
@@ -74,22 +74,6 @@ module _ {V : Type 0} where
     is_undecided : undecided s.place ≡ true
     is_undecided = grind (arith, nat_tests)
 
-    open_is : (k : ℕ) → pending_write k s.live ≡ when (among k (keys_of s.live.ops)) (last_write k s.live.ops)
-    open_is k = ap (λ h. when (among k (drop h (keys_of s.live.ops))) (last_write k s.live.ops)) unsettled_yet
-
-    open_some : (k : ℕ) (v : V) → last_write k s.live.ops ≡ Some v → pending_write k s.live ≡ Some v
-    open_some k v is = open_is k ∙ ap (λ c. when c (last_write k s.live.ops)) (written_among k s.live.ops v is) ∙ is
-
-    open_skipped : (k : ℕ) → among k (keys_of s.live.ops) ≡ false → pending_write k s.live ≡ None
-    open_skipped k none = open_is k ∙ ap (λ c. when c (last_write k s.live.ops)) none
-
-    open_unwritten : (k : ℕ) → last_write k s.live.ops ≡ None → pending_write k s.live ≡ None
-    open_unwritten k none = open_is k ∙ ap (when (among k (keys_of s.live.ops))) none ∙ go (among k (keys_of s.live.ops))
-      where
-        go : (c : Bool) → when {V = V} c None ≡ None
-        go true = refl
-        go false = refl
-
   -- ---- a key
 
   module _ (k : ℕ) (x : Option V) (row : Row V) (us : List (Transaction V)) (seats next : ℕ → Seat V) (won : Option (V × ℕ)) (p number : ℕ)
@@ -127,7 +111,7 @@ module _ {V : Type 0} where
     -- The key was not touched.
     key_skipped : among k (keys_of it.ops) ≡ false → KeyOk k x row (insert it us) next won
     key_skipped none =
-        key_left (along_skip k it.ops none) (open_skipped (seats p) b frozen k none) (sees_skip k it.ops none (value_upto k x it.ts us)) (λ _. none)
+        key_left (along_skip k it.ops none) (open_is_last k (seats p).live (unsettled_yet (seats p) b frozen) ∙ never_written k it.ops none) (sees_skip k it.ops none (value_upto k x it.ts us)) (λ _. none)
 
     -- The key was read only: its lease reaches the timestamp.
     key_read : (e : Entry V) → found k (seats p).sheet ≡ Some e → e.written ≡ false → last_write k it.ops ≡ None
@@ -135,7 +119,7 @@ module _ {V : Type 0} where
     key_read e is unwritten none =
         let lease = (old.stakes p at).seen (is_undecided (seats p) b frozen) e is unwritten in
         let stands = lease.value it.ts lease.begins reaches in
-        key_left (along_unwritten k it.ops none) (open_unwritten (seats p) b frozen k none)
+        key_left (along_unwritten k it.ops none) (open_is_last k (seats p).live (unsettled_yet (seats p) b frozen) ∙ none)
         (subst (λ (o : Option V). Sees k o it.ops) (sym stands) lease.sees)
         (λ late. absurd (let high = bounded won old.above in let r = reaches in omega arith))
       where
@@ -169,7 +153,7 @@ module _ {V : Type 0} where
         }
       where
         opens : pending_write k (seats p).live ≡ Some v
-        opens = open_some (seats p) b frozen k v is
+        opens = open_is_last k (seats p).live (unsettled_yet (seats p) b frozen) ∙ is
 
         mine : row.holder ≡ p
         mine = holds_it k x row us seats won old p at (ap is_some opens)
@@ -219,8 +203,7 @@ module _ {V : Type 0} where
         by_mark e is false mark wrote = (won, key_read e is mark wrote)
 
         by_entry : (o : Option (Entry V)) → found k (seats p).sheet ≡ o → DecidedKey
-        by_entry None is =
-            (won, key_skipped (ap (among k) (sym b.keys) ∙ sym (found_among k (seats p).sheet) ∙ ap (λ (o : Option (Entry V)). is_some o) is))
+        by_entry None is = (won, key_skipped (met (seats p) b k is))
         by_entry (Some e) is = by_mark e is e.written refl (b.writes k e is)
 
   -- ---- the whole

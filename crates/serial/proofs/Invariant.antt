@@ -17,7 +17,7 @@ use Rattle.serial.specs.Transactions.{Live, Orderly, Transaction, among, frees, 
 use Rattle.serial.specs.Serial.{Sorted, held_now}
 use Rattle.serial.proofs.Run.{AllSee, Sees, value_upto}
 use Rattle.serial.proofs.Seats.{place_at}
-use Rattle.serial.proofs.Keys.{found, keyed}
+use Rattle.serial.proofs.Keys.{found, keyed, Apart, keys_apart, found_among}
 
 -- ---- a place
 
@@ -51,6 +51,18 @@ pub record Busy {V : Type 0} (s : Seat V) : Type 0 where
 pub record Seated {V : Type 0} (s : Seat V) : Type 0 where
   pub free : engaged s.place ≡ false → s.live ≡ nothing_done
   pub busy : engaged s.place ≡ true → Busy s
+
+module _ {V : Type 0} (s : Seat V) (b : Busy s) where
+  -- The sheet has no key twice, and those that were met.
+  pub its_apart : Apart (keyed s.sheet)
+  its_apart = subst Apart (sym b.keys) (keys_apart s.live.ops)
+
+  pub met : (k : ℕ) {o : Option (Entry V)} → found k s.sheet ≡ o → among k (keys_of s.live.ops) ≡ is_some o
+  met k is = ap (among k) (sym b.keys) ∙ sym (found_among k s.sheet) ∙ ap is_some is
+
+  -- An entry's mark says whether the key was written.
+  pub wrote : (k : ℕ) (e : Entry V) {c : Bool} → found k s.sheet ≡ Some e → e.written ≡ c → last_write k s.live.ops ≡ cond c (Some e.value) None
+  wrote k e is mark = b.writes k e is ∙ ap (λ c. cond c (Some e.value) None) mark
 
 -- ---- a key
 

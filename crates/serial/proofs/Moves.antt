@@ -14,7 +14,7 @@ use Rattle.serial.specs.Events.{Event, Step, Store, by_did, by_turn, refused}
 use Rattle.serial.specs.Transactions.{Live, Transaction, among, frees, granted, keys_of, live, puts, serial_order, unsettled_write}
 use Rattle.serial.specs.Serial.{Sorted}
 use Rattle.serial.proofs.Seats.{Entered, by_entered, length_put_place, place_at, place_other, place_same}
-use Rattle.serial.proofs.Invariant.{Alike, Inv, KeyOk, Moves, Seat, Seated, Stake, VoidOk, key_moves, seat_of, stake_alike, void_moves, won_alike, all_moved, won_moved}
+use Rattle.serial.proofs.Invariant.{Alike, Inv, KeyOk, Moves, Seat, Seated, Stake, VoidOk, key_moves, seat_of, stake_alike, void_moves, won_alike, all_moved}
 
 -- ---- events of a place
 

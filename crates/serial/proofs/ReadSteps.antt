@@ -1,5 +1,5 @@
 -- read: of a key in the sheet, and of a new one.
-use Rattle.std.proofs.Common.{◌≡◌, ℕ, ◌+◌, ◌-◌, ◌<◌, ◌≤◌, max, Bool, true, false, cond, eqb, leb, List, [], ◌∷◌, ◌++◌, length, drop, Some, None, Ok, Err, Option, Result, sym, refl, ap, ◌∙◌, subst, arith}
+use Rattle.std.proofs.Common.{◌≡◌, ℕ, ◌+◌, ◌-◌, ◌<◌, ◌≤◌, max, Bool, true, false, cond, eqb, leb, List, [], ◌∷◌, ◌++◌, length, Some, None, Ok, Err, Option, Result, sym, refl, ap, ◌∙◌, subst, arith}
 use lib.Seq.{set-get_or}
 use Rattle.std.specs.List.{slice_get}
 use Rattle.std.proofs.lemmas.Bool.{cond_both}
@@ -15,10 +15,10 @@ use Rattle.coordinator.specs.Tables.{put_entry, sheet, sought, used_of}
 use Rattle.coordinator.specs.Calls.{Did, read_call, reading, reading_new, reading_row}
 use Rattle.serial.specs.Events.{Event, Store, by_did, did_read, stepped}
 use Rattle.serial.specs.Transactions.{Live, Op, among, doing, is_some, keys_of, last_write, live, noted, pending_write, reads, serial_order, when, unsettled_write}
-use Rattle.serial.proofs.Run.{Sees, along, along_unwritten, along_written, among_noted, never_written, sees_skip, value_upto, when_none, written_among}
+use Rattle.serial.proofs.Run.{Sees, along, along_unwritten, along_written, among_noted, never_written, sees_skip, value_upto, when_none, written_among, open_is_last}
 use Rattle.serial.proofs.Seats.{blank, length_put_entry, place_at, sheet_other, sheet_push}
-use Rattle.serial.proofs.Keys.{found, found_among, found_pushed, found_unpushed, keyed, keyed_push, sought_found, sought_none}
-use Rattle.serial.proofs.Invariant.{Alike, Busy, Inv, KeyOk, LeaseOk, Seat, Seated, Stake, by_place, engaged, seat_of, stake_alike, undecided, won_alike, write_of}
+use Rattle.serial.proofs.Keys.{found, found_pushed, found_unpushed, keyed, keyed_push, sought_found, sought_none}
+use Rattle.serial.proofs.Invariant.{Alike, Busy, Inv, KeyOk, LeaseOk, Seat, Seated, Stake, by_place, engaged, seat_of, stake_alike, undecided, won_alike, write_of, met, wrote}
 use Rattle.serial.proofs.Moves.{Kept, entry_kept, inv_moves, inv_refused, moved, moved_state, other_place, same_place, seat_in}
 use Rattle.serial.proofs.Turns.{same_entries}
 
@@ -31,14 +31,6 @@ new_keys k ks is = ap (λ b. cond b ks (ks ++ k ∷ [])) is
 -- ---- writes of a transaction that has settled nothing
 
 module _ {V : Type 0} where
-  -- Until the first settle every write is open.
-  pub open_is_last : (k : ℕ) (l : Live V) → l.handled ≡ 0 → pending_write k l ≡ last_write k l.ops
-  open_is_last k l none = ap (λ n. when (among k (drop n (keys_of l.ops))) (last_write k l.ops)) none ∙ go (last_write k l.ops) refl
-    where
-      go : (o : Option V) → last_write k l.ops ≡ o → when (among k (keys_of l.ops)) (last_write k l.ops) ≡ last_write k l.ops
-      go (Some v) is = ap (λ b. when b (last_write k l.ops)) (written_among k l.ops v is)
-      go None is = ap (when (among k (keys_of l.ops))) is ∙ when_none (among k (keys_of l.ops)) ∙ sym is
-
   -- A read leaves the open writes as they are.
   pub open_read : (j k : ℕ) (v : V) (l : Live V) → l.handled ≡ 0 → pending_write j (doing (reads k v) l) ≡ pending_write j l
   open_read j k v l none = open_is_last j (doing (reads k v) l) none ∙ sym (open_is_last j l none)
@@ -80,11 +72,8 @@ module _ {V : Type 0} where
       abbrev after : Live V
       after = doing (reads k e.value) (live p es)
 
-      among_known : among k (keys_of (live p es).ops) ≡ true
-      among_known = ap (among k) (sym is_busy.keys) ∙ sym (found_among k now_seat.sheet) ∙ ap is_some known
-
       keys_known : keys_of after.ops ≡ keys_of (live p es).ops
-      keys_known = known_keys k (keys_of (live p es).ops) among_known
+      keys_known = known_keys k (keys_of (live p es).ops) (met now_seat is_busy k known)
 
       busy_known : Busy (seat_in p here st.tables.entries after)
       busy_known =
@@ -99,7 +88,7 @@ module _ {V : Type 0} where
             seen = λ u f is unwritten.
                 let o = old.seen u f is unwritten in
                 let same : e ≡ f = cc in
-                let w = is_busy.writes k f is ∙ ap (λ b. cond b (Some f.value) None) unwritten in
+                let w = wrote now_seat is_busy k f is unwritten in
                 record { fair = o.fair; begins = o.begins; ends = o.ends; value = o.value; sees = (o.sees, λ _. along_unwritten k (live p es).ops w (Some f.value) ∙ ap (λ (g : Entry V). Some g.value) (sym same)) };
             holds = λ u is. held_known row (old.holds u (ap is_some (sym (open_read k k e.value (live p es) none_handled)) ∙ is)) (ap is_some (sym (open_is_last k after none_handled)) ∙ is);
             wins = λ v is. absurd (let n = not_decided in grind (arith, nat_tests));
@@ -109,8 +98,8 @@ module _ {V : Type 0} where
           held_known row o is = record { above = o.above; sees = (o.sees, λ _. written e.written refl) }
             where
               written : (b : Bool) → e.written ≡ b → along k (Some row.value) (live p es).ops ≡ Some e.value
-              written true w = along_written k (live p es).ops e.value (is_busy.writes k e known ∙ ap (λ c. cond c (Some e.value) None) w) row.value
-              written false w = absurd (let l = is_busy.writes k e known ∙ ap (λ c. cond c (Some e.value) None) w in let n = sym (ap is_some l) ∙ is in cc)
+              written true w = along_written k (live p es).ops e.value (wrote now_seat is_busy k e known w) row.value
+              written false w = cc (ap is_some (wrote now_seat is_busy k e known w))
 
       alike_known : (j : ℕ) → (j ≡ k → ⊥) → Alike j now_seat (seat_in p here st.tables.entries after)
       alike_known j apart =
@@ -147,7 +136,7 @@ module _ {V : Type 0} where
       new_seat = seat_in p place' entries' reader
 
       not_among : among k (keys_of (live p es).ops) ≡ false
-      not_among = ap (among k) (sym is_busy.keys) ∙ sym (found_among k now_seat.sheet) ∙ ap is_some unknown
+      not_among = met now_seat is_busy k unknown
 
       new_sheet : new_seat.sheet ≡ now_seat.sheet ++ (entry ∷ [])
       new_sheet =

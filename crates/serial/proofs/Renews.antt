@@ -19,8 +19,8 @@ use Rattle.serial.specs.Events.{Event, Store, by_did, did_renew, stepped}
 use Rattle.serial.specs.Transactions.{Transaction, last_write, live, serial_order}
 use Rattle.serial.proofs.Run.{value_upto}
 use Rattle.serial.proofs.Seats.{length_put_entry, place_at, place_range, sheet_other, sheet_set}
-use Rattle.serial.proofs.Keys.{Apart, found, found_set, keyed, keyed_set, keys_apart, nth_found}
-use Rattle.serial.proofs.Invariant.{Busy, Inv, KeyOk, LeaseOk, Moves, Seat, Seated, Stake, by_place, seat_of, undecided, write_of, all_moved, won_moved}
+use Rattle.serial.proofs.Keys.{found, found_set, keyed, keyed_set, nth_found}
+use Rattle.serial.proofs.Invariant.{Busy, Inv, KeyOk, LeaseOk, Moves, Seat, Seated, Stake, by_place, seat_of, undecided, write_of, all_moved, its_apart}
 use Rattle.serial.proofs.Moves.{Kept, OnlyAt, alike_ok, entry_kept, inv_moves, inv_refused, moved, moved_state, seat_in}
 use Rattle.serial.proofs.Turns.{inv_lost, same_entries}
 use Rattle.serial.proofs.Changes.{free_won, inv_changes, with_row}
@@ -179,14 +179,11 @@ module _ {V : Type 0} where
       sheet_same : sheet p (used_of here) entries_after ≡ sheet_after
       sheet_same = let l = limits frozen e is in sheet_set p (cursor_of here) (used_of here) st.tables.entries longer at l.1 l.2
 
-      apart_keys : Apart (keyed was)
-      apart_keys = subst Apart (sym (busy frozen).keys) (keys_apart (live p es).ops)
-
       was_found : found e.key was ≡ Some e
-      was_found = nth_found was (cursor_of here) e apart_keys is
+      was_found = nth_found was (cursor_of here) e (its_apart _ (busy frozen)) is
 
       now_found : (found e.key sheet_after ≡ Some longer) × ((k : ℕ) → (k ≡ e.key → ⊥) → found k sheet_after ≡ found k was)
-      now_found = found_set was (cursor_of here) e longer is refl apart_keys
+      now_found = found_set was (cursor_of here) e longer is refl (its_apart _ (busy frozen))
 
       writes_after : (k : ℕ) (f : Entry V) → found k sheet_after ≡ Some f → last_write k (live p es).ops ≡ write_of f
       writes_after k f =

@@ -5,7 +5,7 @@
 --   quiet_value, quiet_see          insertion of a transaction that leaves the key alone
 --   write_before, write_after, write_see    insertion of one that may write it, while the later ones do not use the key
 --   sorted_insert, arranged_shuffled     the order
-use Rattle.std.proofs.Common.{◌≡◌, ℕ, ◌<◌, ◌≤◌, max, Bool, true, false, cond, ◌||◌, eqb, leb, List, [], ◌∷◌, ◌++◌, set, Some, None, Option, sym, refl, ap, ◌∙◌, subst, arith}
+use Rattle.std.proofs.Common.{◌≡◌, ℕ, ◌<◌, ◌≤◌, max, Bool, true, false, cond, ◌||◌, eqb, leb, List, [], ◌∷◌, ◌++◌, set, Some, None, Option, sym, refl, ap, ◌∙◌, subst, arith, drop}
 use Rattle.std.specs.List.{slice_get, AllByRecursion as All}
 use Rattle.std.specs.List.Sorted.{IsPermutation}
 use Rattle.std.proofs.ByRecursion.{All-weaker}
@@ -14,7 +14,7 @@ use Rattle.std.proofs.lemmas.Grind.{elements}
 use Rattle.std.proofs.lemmas.Option.{gets, slice_get_cases}
 use Rattle.std.proofs.lemmas.List.Sorted.{IsPermutation-refl, IsPermutation-cons, IsPermutation-swap, IsPermutation-trans}
 use Rattle.std.proofs.lemmas.Bool.Decides.{nat_tests}
-use Rattle.serial.specs.Transactions.{Op, reads, writes, Transaction, among, arranged, before, insert, keys_of, last_write, noted, when}
+use Rattle.serial.specs.Transactions.{Op, reads, writes, Transaction, among, arranged, before, insert, keys_of, last_write, noted, when, Live, pending_write}
 use Rattle.serial.specs.Serial.{AllBefore, AllGet, Replays, Sorted, run_all, run_ops}
 
 -- A write alters a key that is there.
@@ -152,6 +152,14 @@ module _ {V : Type 0} where
   pub when_none : (b : Bool) → when {V = V} b None ≡ None
   when_none true = refl
   when_none false = refl
+
+  -- Until the first settle every write is open.
+  pub open_is_last : (k : ℕ) (l : Live V) → l.handled ≡ 0 → pending_write k l ≡ last_write k l.ops
+  open_is_last k l none = ap (λ n. when (among k (drop n (keys_of l.ops))) (last_write k l.ops)) none ∙ go (among k (keys_of l.ops)) refl
+    where
+      go : (b : Bool) → among k (keys_of l.ops) ≡ b → when b (last_write k l.ops) ≡ last_write k l.ops
+      go true is = refl
+      go false is = sym (never_written k l.ops is)
 
   -- ---- up to a timestamp
 

@@ -17,8 +17,8 @@ use Rattle.serial.specs.Events.{Event, Store, by_did, did_settle, stepped}
 use Rattle.serial.specs.Transactions.{Live, Transaction, among, frees, nothing_done, is_some, keys_of, last_write, live, next_write, one_if, pending_write, puts, serial_order, settling_now, when, unsettled_write, write_at}
 use Rattle.serial.proofs.Run.{value_upto}
 use Rattle.serial.proofs.Seats.{place_at, place_range}
-use Rattle.serial.proofs.Keys.{Apart, among_drop, among_here, apart_past, drop_none, keys_apart, nth_found, nth_keyed, nth_keyed_none}
-use Rattle.serial.proofs.Invariant.{Busy, Inv, KeyOk, Moves, Seat, Seated, Stake, bound, by_place, seat_of, standing, undecided, write_of, won_open, all_moved, won_moved}
+use Rattle.serial.proofs.Keys.{among_drop, among_here, apart_past, drop_none, keys_apart, nth_found, nth_keyed, nth_keyed_none}
+use Rattle.serial.proofs.Invariant.{Busy, Inv, KeyOk, Moves, Seat, Seated, Stake, bound, by_place, seat_of, standing, undecided, won_open, all_moved, its_apart, wrote}
 use Rattle.serial.proofs.Moves.{Kept, alike_ok, entry_kept, inv_moves, inv_refused, moved, moved_state, other_place, same_place, seat_in}
 use Rattle.serial.proofs.Changes.{held_one, holds_none, inv_changes, loser_won, with_row}
 use Rattle.serial.proofs.Turns.{same_entries}
@@ -216,9 +216,8 @@ module _ {V : Type 0} where
             ap (slice_get (keys_of now.ops)) handled_is ∙ ap (λ ks. slice_get ks (cursor_of here)) (sym busy.keys)
             ∙ nth_keyed (sheet p (used_of here) entries) (cursor_of here) e is
 
-        its_write : last_write e.key now.ops ≡ write_of e
-        its_write =
-            busy.writes e.key e (nth_found (sheet p (used_of here) entries) (cursor_of here) e (subst Apart (sym busy.keys) (keys_apart now.ops)) is)
+        its_write : {c : Bool} → e.written ≡ c → last_write e.key now.ops ≡ cond c (Some e.value) None
+        its_write mark = wrote _ busy e.key e (nth_found (sheet p (used_of here) entries) (cursor_of here) e (its_apart _ busy) is) mark
 
         seated_onward : Seated (seat_in p (onward here) entries then_live)
         seated_onward = record {
@@ -246,7 +245,7 @@ module _ {V : Type 0} where
         -- A key that was only read: nothing but the cursor.
         inv_read : e.written ≡ false → Inv x (event ∷ es) (moved_state st st.tables.home st.counter p (onward here) entries)
         inv_read unwritten =
-            let write : last_write e.key now.ops ≡ None = its_write ∙ ap (λ b. cond b (Some e.value) None) unwritten in
+            let write : last_write e.key now.ops ≡ None = its_write unwritten in
             let none = ap (λ (a : Option V). one_if (is_some a)) (next_is now e.key next_key ∙ write) in
             inv_moves x es st event p (onward here) entries then_live i
             (record { order = refl; grants = refl; put = no_put now.decided _ (puts es) none; freed = no_free now.decided _ (frees es) none }) at refl
@@ -258,9 +257,6 @@ module _ {V : Type 0} where
 
         -- A key that was written: its row is let go.
         module _ (written : e.written ≡ true) where
-          wrote : last_write e.key now.ops ≡ Some e.value
-          wrote = its_write ∙ ap (λ b. cond b (Some e.value) None) written
-
           -- All of it holds with this row under the key.
           abbrev After : Row V → Type 0
           After new = Inv x (event ∷ es) (moved_state st (with_row st.tables.home e.key new) st.counter p (onward here) entries)
@@ -277,7 +273,7 @@ module _ {V : Type 0} where
                       (let range = place_range p at in
                       let held : held_one row ≡ 1 = grind (arith, nat_tests) in
                       let let_go : held_one new ≡ 0 = grind (arith, nat_tests) in
-                      let ended = one_ended now.decided _ (puts es) (frees es) (ap (λ (a : Option V). one_if (is_some a)) (next_is now e.key next_key ∙ wrote)) in
+                      let ended = one_ended now.decided _ (puts es) (frees es) (ap (λ (a : Option V). one_if (is_some a)) (next_is now e.key next_key ∙ its_write written)) in
                       omega arith);
                   long = refl;
                   was = was;
@@ -306,7 +302,7 @@ module _ {V : Type 0} where
             inv_put new wins is' =
                 let g = put_granted st.tables.home.last p e.value here.ts row new is' in
                 let write : unsettled_write e.key now ≡ Some e.value =
-                ap (λ b. when b (pending_write e.key now)) (busy.decided ∙ wins) ∙ open_here now e.key next_key ∙ wrote in
+                ap (λ b. when b (pending_write e.key now)) (busy.decided ∙ wins) ∙ open_here now e.key next_key ∙ its_write written in
                 subst After (sym g.2)
                 (inv_released _ g.0 refl
                 (λ won old. put_released e.key (x e.key) row (serial_order es) (seat_of st es) won p old e.value here.ts

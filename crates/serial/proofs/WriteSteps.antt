@@ -17,14 +17,14 @@ use Rattle.coordinator.specs.Tables.{put_entry, sheet, sought, used_of}
 use Rattle.coordinator.specs.Calls.{Did, comparing, comparing_at, holding, holding_at, moved_on, rewriting, write_call, writing}
 use Rattle.serial.specs.Events.{Event, Store, by_did, did_write, stepped}
 use Rattle.serial.specs.Transactions.{Live, Op, Transaction, among, doing, is_none, is_some, keys_of, last_write, live, noted, one_if, pending_write, serial_order, when, unsettled_write, writes}
-use Rattle.serial.proofs.Run.{Sees, among_noted, never_written, sees_skip}
+use Rattle.serial.proofs.Run.{Sees, among_noted, never_written, sees_skip, open_is_last}
 use Rattle.serial.proofs.Seats.{length_put_entry, place_at, place_range, sheet_other, sheet_push, sheet_set}
-use Rattle.serial.proofs.Keys.{Apart, found, found_among, found_pushed, found_set, found_unpushed, keyed, keyed_push, keyed_set, keys_apart, sought_found, sought_none}
-use Rattle.serial.proofs.Invariant.{Alike, Busy, HoldOk, Inv, KeyOk, LeaseOk, Seat, Seated, Stake, ahead, by_place, seat_of, stake_alike, standing, undecided, write_of, won_open}
+use Rattle.serial.proofs.Keys.{found, found_pushed, found_set, found_unpushed, keyed, keyed_push, keyed_set, sought_found, sought_none}
+use Rattle.serial.proofs.Invariant.{Alike, Busy, HoldOk, Inv, KeyOk, LeaseOk, Seat, Seated, Stake, ahead, by_place, seat_of, stake_alike, standing, undecided, write_of, won_open, its_apart, met, wrote}
 use Rattle.serial.proofs.Moves.{Kept, entry_kept, inv_moves, inv_refused, moved, moved_state, other_place, same_place, seat_in}
 use Rattle.serial.proofs.Turns.{inv_lost}
 use Rattle.serial.proofs.Changes.{free_won, held_one, holds_none, inv_changes, with_row}
-use Rattle.serial.proofs.ReadSteps.{is_busy, known_keys, new_keys, no_win, none_handled, not_decided, open_is_last, same_state}
+use Rattle.serial.proofs.ReadSteps.{is_busy, known_keys, new_keys, no_win, none_handled, not_decided, same_state}
 
 -- A key is among the others as before, once one more is noted.
 among_other : (j k : ℕ) (ks : List ℕ) → (j ≡ k → ⊥) → among j (noted k ks) ≡ among j ks
@@ -201,7 +201,7 @@ module _ {V : Type 0} where
 
     module _ (k : ℕ) (v : V) (row : Row V) (unknown : found k now_seat.sheet ≡ None) (room : used_of here < 16) where
       not_among : among k (keys_of (live p es).ops) ≡ false
-      not_among = ap (among k) (sym busy.keys) ∙ sym (found_among k now_seat.sheet) ∙ ap is_some unknown
+      not_among = met now_seat busy k unknown
 
       pub taken_new : Taken k v row (used_of here) (used_of here + 1)
       taken_new =
@@ -231,11 +231,8 @@ module _ {V : Type 0} where
       abbrev at_key : (slice_get now_seat.sheet n ≡ Some e) × (e.key ≡ k) × (found k now_seat.sheet ≡ Some e) × (n < length now_seat.sheet)
       at_key = sought_found k now_seat.sheet n e where'
 
-      apart_keys : Apart (keyed now_seat.sheet)
-      apart_keys = subst Apart (sym busy.keys) (keys_apart (live p es).ops)
-
       among_known : among k (keys_of (live p es).ops) ≡ true
-      among_known = ap (among k) (sym busy.keys) ∙ sym (found_among k now_seat.sheet) ∙ ap is_some at_key.2
+      among_known = met now_seat busy k at_key.2
 
       -- the entry at its place in the sheet, under the same key
       module _ (new : Entry V) (same : new.key ≡ k) where
@@ -246,10 +243,10 @@ module _ {V : Type 0} where
         is_key = same ∙ sym at_key.1
 
         changed_first : found k (set now_seat.sheet n new) ≡ Some new
-        changed_first = ap (λ j. found j (set now_seat.sheet n new)) (sym at_key.1) ∙ (found_set now_seat.sheet n e new at_key.0 is_key apart_keys).0
+        changed_first = ap (λ j. found j (set now_seat.sheet n new)) (sym at_key.1) ∙ (found_set now_seat.sheet n e new at_key.0 is_key (its_apart now_seat busy)).0
 
         changed_others : (j : ℕ) → (j ≡ k → ⊥) → found j (set now_seat.sheet n new) ≡ found j now_seat.sheet
-        changed_others j apart = (found_set now_seat.sheet n e new at_key.0 is_key apart_keys).1 j (λ is. apart (is ∙ at_key.1))
+        changed_others j apart = (found_set now_seat.sheet n e new at_key.0 is_key (its_apart now_seat busy)).1 j (λ is. apart (is ∙ at_key.1))
 
         changed_keys : keyed (set now_seat.sheet n new) ≡ noted k (keys_of (live p es).ops)
         changed_keys = keyed_set now_seat.sheet n e new at_key.0 is_key ∙ busy.keys ∙ sym (known_keys k (keys_of (live p es).ops) among_known)
@@ -269,7 +266,7 @@ module _ {V : Type 0} where
             keys = ap keyed (changed_sheet new refl) ∙ changed_keys new refl;
             first = ap (found k) (changed_sheet new refl) ∙ changed_first new refl;
             others = λ j apart. ap (found j) (changed_sheet new refl) ∙ changed_others new refl j apart;
-            unwritten = busy.writes k e at_key.2 ∙ ap (λ b. cond b (Some e.value) None) read;
+            unwritten = wrote now_seat busy k e at_key.2 read;
             sees = λ won ok. saw won ok;
           }
         where
@@ -300,7 +297,7 @@ module _ {V : Type 0} where
         again_seat = seat_in p here again_entries again
 
         last_known : last_write k (live p es).ops ≡ Some e.value
-        last_known = busy.writes k e at_key.2 ∙ ap (λ b. cond b (Some e.value) None) written
+        last_known = wrote now_seat busy k e at_key.2 written
 
         first_again : found k again_seat.sheet ≡ Some rewritten
         first_again = ap (found k) (changed_sheet rewritten at_key.1) ∙ changed_first rewritten at_key.1
