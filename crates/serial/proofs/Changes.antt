@@ -28,7 +28,7 @@ module _ {V : Type 0} where
       omega arith
   held_set (r ∷ rows) (suc k) row new is = let h = held_set rows k row new is in omega arith
 
-  module _ (k : ℕ) (x : Option V) (row : Row V) (us : List (Transaction V)) (seats : ℕ → Seat V) (won : Option (V × ℕ)) (ok : KeyOk k x row us seats won) where
+  module _ {k : ℕ} {x : Option V} {row : Row V} {us : List (Transaction V)} {seats : ℕ → Seat V} {won : Option (V × ℕ)} (ok : KeyOk k x row us seats won) where
     -- Whoever has an unsettled write of the key is its holder.
     pub holds_it : (p : ℕ) → is_place p ≡ true → is_some (pending_write k (seats p).live) ≡ true → row.holder ≡ p
     holds_it p at is = let h = (ok.stakes p at).owner ∙ is in grind (arith, nat_tests)
@@ -100,7 +100,7 @@ module _ {V : Type 0} where
             let was = sym (nth_set_other st.tables.home.rows k j new apart) ∙ is in
             let old = i.keys j r was in
             let a = ok.others j apart in
-            (old.0, key_moves j (x j) r (serial_order es) (seat_of st es) (seat_of next_state (e ∷ es)) old.0 p here_seat ok.moves (stake_alike j (x j) r (serial_order es) old.0 p (seat_of st es p) here_seat a (old.1.stakes p at)) (won_alike j (seat_of st es p) here_seat a) old.1)
+            (old.0, key_moves ok.moves (stake_alike a (old.1.stakes p at)) (won_alike a) old.1)
 
         each : (j : ℕ) (r : Row V) → slice_get (set st.tables.home.rows k new) j ≡ Some r → (won : Option (V × ℕ)) × KeyOk j (x j) r (serial_order es) (seat_of next_state (e ∷ es)) won
         each j r is = by_place (λ m. slice_get (set st.tables.home.rows k new) m ≡ Some r → (won : Option (V × ℕ)) × KeyOk m (x m) r (serial_order es) (seat_of next_state (e ∷ es)) won) k j (here r) (λ apart. there j r apart) is
@@ -114,5 +114,5 @@ module _ {V : Type 0} where
             (λ apart is.
             let was = sym (nth_set_other st.tables.home.rows k j new apart) ∙ is in
             let old = i.voids j was in
-            void_moves j (x j) (serial_order es) (seat_of st es) (seat_of next_state (e ∷ es)) p here_seat ok.moves (ok.fresh j apart ∙ old.fresh p at) old)
+            void_moves ok.moves (ok.fresh j apart ∙ old.fresh p at) old)
             is

@@ -43,11 +43,11 @@ module _ {V : Type 0} where
       go false at ih = let r = ih at in (suc r.0, r.1, omega arith)
 
   -- A seat keeps its stake where the run stays as it was up to the end of the lease.
-  stake_grows : (k : ℕ) (x : Option V) (row : Row V) (us new : List (Transaction V)) (won after : Option (V × ℕ)) (q : ℕ) (s : Seat V)
+  stake_grows : {k : ℕ} {x : Option V} {row : Row V} {us new : List (Transaction V)} {won after : Option (V × ℕ)} {q : ℕ} {s : Seat V}
       → ((τ : ℕ) → τ ≤ row.rts → value_upto k x τ new ≡ value_upto k x τ us)
       → ((v : V) → unsettled_write k s.live ≡ Some v → after ≡ Some (v, s.place.ts))
       → Stake k x row us won q s → Stake k x row new after q s
-  stake_grows k x row us new won after q s same wins old =
+  stake_grows same wins old =
       record {
         owner = old.owner;
         seen = λ u e is unwritten.
@@ -104,7 +104,7 @@ module _ {V : Type 0} where
           above = old.above;
           winner = λ w is. won_moved m k w.0 (λ was. absurd (let o = won_open k (seats p).live w.0 was in cc)) (old.winner w is);
           stakes = all_moved m (Stake k x row (insert it us) won) (stake_decided won (λ v is. cc))
-              (λ q here _. stake_grows k x row us (insert it us) won won q (seats q) (λ τ _. quiet_value k x τ it us quiet) (old.stakes q here).wins (old.stakes q here));
+              (λ q here _. stake_grows (λ τ _. quiet_value k x τ it us quiet) (old.stakes q here).wins (old.stakes q here));
           holder = old.holder;
         }
 
@@ -145,9 +145,9 @@ module _ {V : Type 0} where
           stakes = all_moved m (Stake k x row (insert it us) (Some (v, it.ts)))
               (stake_decided (Some (v, it.ts)) (λ w is'. ap (λ (a : V). Some (a, it.ts)) (value w is')))
               (λ q here apart.
-              stake_grows k x row us (insert it us) won (Some (v, it.ts)) q (seats q)
+              stake_grows
               (λ τ low. write_before k x τ it us (omega (arith, above)))
-              (λ w is'. absurd (apart (sym (holds_it k x row us seats won old q here (ap is_some (won_open k (seats q).live w is').1)) ∙ mine)))
+              (λ w is'. absurd (apart (sym (holds_it old q here (ap is_some (won_open k (seats q).live w is').1)) ∙ mine)))
               (old.stakes q here));
           holder = old.holder;
         }
@@ -156,10 +156,10 @@ module _ {V : Type 0} where
         opens = open_is_last k (seats p).live (unsettled_yet (seats p) b frozen) ∙ is
 
         mine : row.holder ≡ p
-        mine = holds_it k x row us seats won old p at (ap is_some opens)
+        mine = holds_it old p at (ap is_some opens)
 
         none : won ≡ None
-        none = loser_won k x row us seats won old (ap (λ q. (seats q).live.decided) mine ∙ not_decided (seats p) b frozen)
+        none = loser_won old (ap (λ q. (seats q).live.decided) mine ∙ not_decided (seats p) b frozen)
 
         hold : HoldOk k row (seats p)
         hold = (old.stakes p at).holds (is_undecided (seats p) b frozen) (ap is_some opens)
@@ -203,7 +203,7 @@ module _ {V : Type 0} where
         by_mark e is false mark wrote = (won, key_read e is mark wrote)
 
         by_entry : (o : Option (Entry V)) → found k (seats p).sheet ≡ o → DecidedKey
-        by_entry None is = (won, key_skipped (met (seats p) b k is))
+        by_entry None is = (won, key_skipped (met b k is))
         by_entry (Some e) is = by_mark e is e.written refl (b.writes k e is)
 
   -- ---- the whole
@@ -279,7 +279,7 @@ module _ {V : Type 0} where
                 let none = old.fresh p at in
                 let skips =
                 all_insert (λ (t : Transaction V). among k (keys_of t.ops) ≡ false) (commit_of number seat) (serial_order es) none old.skipped in
-                void_moves k (x k) (serial_order (event ∷ es)) (seat_of st es) next_seats p (decided_seat seat) moves none
+                void_moves moves none
                 (record { none = old.none; skipped = skips; fresh = old.fresh });
             sorted = sorted_insert (commit_of number seat) (serial_order es) i.sorted newest;
             numbered =

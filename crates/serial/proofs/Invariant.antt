@@ -52,7 +52,7 @@ pub record Seated {V : Type 0} (s : Seat V) : Type 0 where
   pub free : engaged s.place ≡ false → s.live ≡ nothing_done
   pub busy : engaged s.place ≡ true → Busy s
 
-module _ {V : Type 0} (s : Seat V) (b : Busy s) where
+module _ {V : Type 0} {s : Seat V} (b : Busy s) where
   -- The sheet has no key twice, and those that were met.
   pub its_apart : Apart (keyed s.sheet)
   its_apart = subst Apart (sym b.keys) (keys_apart s.live.ops)
@@ -172,11 +172,11 @@ module _ {V : Type 0} where
       go true is = (refl, is)
       go false is = cc
 
-  pub won_alike : (k : ℕ) (s n : Seat V) → Alike k s n → unsettled_write k n.live ≡ unsettled_write k s.live
-  won_alike k s n a = cc
+  pub won_alike : {k : ℕ} {s n : Seat V} → Alike k s n → unsettled_write k n.live ≡ unsettled_write k s.live
+  won_alike a = cc
 
-  pub stake_alike : (k : ℕ) (x : Option V) (row : Row V) (us : List (Transaction V)) (won : Option (V × ℕ)) (p : ℕ) (s n : Seat V) → Alike k s n → Stake k x row us won p s → Stake k x row us won p n
-  stake_alike k x row us won p s n a old =
+  pub stake_alike : {k : ℕ} {x : Option V} {row : Row V} {us : List (Transaction V)} {won : Option (V × ℕ)} {p : ℕ} {s n : Seat V} → Alike k s n → Stake k x row us won p s → Stake k x row us won p n
+  stake_alike {k} {s = s} a old =
       record {
         owner = old.owner ∙ ap is_some (sym a.write);
         seen = λ u e is unwritten.
@@ -186,7 +186,7 @@ module _ {V : Type 0} where
             let o = old.holds (a.undecided u) (sym (ap is_some a.write) ∙ is) in
             record { above = (omega arith); sees = a.sees _ o.sees };
         wins = λ v is.
-            let was = sym (won_alike k s n a) ∙ is in
+            let was = sym (won_alike a) ∙ is in
             let t = a.same (won_open k s.live v was).0 in
             old.wins v was ∙ ap (λ (m : ℕ). Some (v, m)) (sym t);
       }
@@ -213,7 +213,7 @@ module _ {V : Type 0} where
       (won.0, won.1, all_moved m (λ q (s : Seat V). unsettled_write k (seats q).live ≡ Some v → unsettled_write k s.live ≡ Some v) still (λ q at apart is. is) won.0 won.1 won.2)
 
   -- A key keeps what holds of it where one seat moves and neither its row nor the order changes.
-  module _ (k : ℕ) (x : Option V) (row : Row V) (us : List (Transaction V)) (seats next : ℕ → Seat V) (won : Option (V × ℕ)) (p : ℕ) (n : Seat V) where
+  module _ {k : ℕ} {x : Option V} {row : Row V} {us : List (Transaction V)} {seats next : ℕ → Seat V} {won : Option (V × ℕ)} {p : ℕ} {n : Seat V} where
     pub key_moves : Moves seats next p n → Stake k x row us won p n → unsettled_write k n.live ≡ unsettled_write k (seats p).live → KeyOk k x row us seats won → KeyOk k x row us next won
     key_moves m stake write old =
         record {
@@ -227,7 +227,7 @@ module _ {V : Type 0} where
           stakes = all_moved m (Stake k x row us won) stake (λ q at _. old.stakes q at);
         }
 
-  module _ (k : ℕ) (x : Option V) (us : List (Transaction V)) (seats next : ℕ → Seat V) (p : ℕ) (n : Seat V) where
+  module _ {k : ℕ} {x : Option V} {us : List (Transaction V)} {seats next : ℕ → Seat V} {p : ℕ} {n : Seat V} where
     pub void_moves : Moves seats next p n → among k (keys_of n.live.ops) ≡ false → VoidOk k x us seats → VoidOk k x us next
     void_moves m none old =
         record { none = old.none; skipped = old.skipped; fresh = all_moved m (λ q (s : Seat V). among k (keys_of s.live.ops) ≡ false) none (λ q at _. old.fresh q at) }

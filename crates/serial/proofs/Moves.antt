@@ -105,8 +105,8 @@ module _ {V : Type 0} where
           many = (let h = i.many in let g = length_put_place st.tables.places p pl in omega arith);
           long = (let h = i.long in omega arith);
           seated = all_moved m (λ q. Seated) ok.seated (λ q at _. i.seated q at);
-          keys = λ k row is. ((i.keys k row is).0, subst (λ us. KeyOk k (x k) row us (seat_of next (e ∷ es)) (i.keys k row is).0) (sym plain.order) (key_moves k (x k) row (serial_order es) (seat_of st es) (seat_of next (e ∷ es)) (i.keys k row is).0 p n m (ok.stakes k row (i.keys k row is).0 is (i.keys k row is).1) (ok.wins k) (i.keys k row is).1));
-          voids = λ k is. subst (λ us. VoidOk k (x k) us (seat_of next (e ∷ es))) (sym plain.order) (void_moves k (x k) (serial_order es) (seat_of st es) (seat_of next (e ∷ es)) p n m (ok.fresh k is ((i.voids k is).fresh p at)) (i.voids k is));
+          keys = λ k row is. ((i.keys k row is).0, subst (λ us. KeyOk k (x k) row us (seat_of next (e ∷ es)) (i.keys k row is).0) (sym plain.order) (key_moves m (ok.stakes k row (i.keys k row is).0 is (i.keys k row is).1) (ok.wins k) (i.keys k row is).1));
+          voids = λ k is. subst (λ us. VoidOk k (x k) us (seat_of next (e ∷ es))) (sym plain.order) (void_moves m (ok.fresh k is ((i.voids k is).fresh p at)) (i.voids k is));
           sorted = subst Sorted (sym plain.order) i.sorted;
           numbered = subst (All (λ (t : Transaction V). t.number ≤ st.counter)) (sym plain.order) i.numbered;
           limit = i.limit;
@@ -120,11 +120,11 @@ module _ {V : Type 0} where
         n = seat_in p pl entries l
 
   -- The same where every key is alike.
-  pub alike_ok : (x : ℕ → Option V) (es : List (Event V)) (st : Store V) (p : ℕ) (n : Seat V) → is_place p ≡ true → ((k : ℕ) → Alike k (seat_of st es p) n) → ((k : ℕ) → among k (keys_of n.live.ops) ≡ among k (keys_of (live p es).ops)) → Seated n → MovedOk x es st p n
-  alike_ok x es st p n at alike keys seated =
+  pub alike_ok : {x : ℕ → Option V} {es : List (Event V)} {st : Store V} {p : ℕ} {n : Seat V} → is_place p ≡ true → ((k : ℕ) → Alike k (seat_of st es p) n) → ((k : ℕ) → among k (keys_of n.live.ops) ≡ among k (keys_of (live p es).ops)) → Seated n → MovedOk x es st p n
+  alike_ok {p = p} at alike keys seated =
       record {
         seated = seated;
-        stakes = λ k row won is ok. stake_alike k (x k) row (serial_order es) won p (seat_of st es p) n (alike k) (ok.stakes p at);
-        wins = λ k. won_alike k (seat_of st es p) n (alike k);
+        stakes = λ k row won is ok. stake_alike (alike k) (ok.stakes p at);
+        wins = λ k. won_alike (alike k);
         fresh = λ k is was. keys k ∙ was;
       }

@@ -73,7 +73,7 @@ module _ {V : Type 0} where
       after = doing (reads k e.value) (live p es)
 
       keys_known : keys_of after.ops ≡ keys_of (live p es).ops
-      keys_known = known_keys k (keys_of (live p es).ops) (met now_seat is_busy k known)
+      keys_known = known_keys k (keys_of (live p es).ops) (met is_busy k known)
 
       busy_known : Busy (seat_in p here st.tables.entries after)
       busy_known =
@@ -88,7 +88,7 @@ module _ {V : Type 0} where
             seen = λ u f is unwritten.
                 let o = old.seen u f is unwritten in
                 let same : e ≡ f = cc in
-                let w = wrote now_seat is_busy k f is unwritten in
+                let w = wrote is_busy k f is unwritten in
                 record { fair = o.fair; begins = o.begins; ends = o.ends; value = o.value; sees = (o.sees, λ _. along_unwritten k (live p es).ops w (Some f.value) ∙ ap (λ (g : Entry V). Some g.value) (sym same)) };
             holds = λ u is. held_known row (old.holds u (ap is_some (sym (open_read k k e.value (live p es) none_handled)) ∙ is)) (ap is_some (sym (open_is_last k after none_handled)) ∙ is);
             wins = λ v is. absurd (let n = not_decided in grind (arith, nat_tests));
@@ -98,8 +98,8 @@ module _ {V : Type 0} where
           held_known row o is = record { above = o.above; sees = (o.sees, λ _. written e.written refl) }
             where
               written : (b : Bool) → e.written ≡ b → along k (Some row.value) (live p es).ops ≡ Some e.value
-              written true w = along_written k (live p es).ops e.value (wrote now_seat is_busy k e known w) row.value
-              written false w = cc (ap is_some (wrote now_seat is_busy k e known w))
+              written true w = along_written k (live p es).ops e.value (wrote is_busy k e known w) row.value
+              written false w = cc (ap is_some (wrote is_busy k e known w))
 
       alike_known : (j : ℕ) → (j ≡ k → ⊥) → Alike j now_seat (seat_in p here st.tables.entries after)
       alike_known j apart =
@@ -112,7 +112,7 @@ module _ {V : Type 0} where
           (moved st es (did_read p k e.value ∷ es) st.tables.home st.counter p here st.tables.entries after at i.many (same_entries p st.tables.entries) (same_place p after (live p es)) (λ q apart. other_place p q (doing (reads k e.value) (live q es)) (live q es) apart))
           (record {
             seated = record { free = λ no'. grind (arith, nat_tests); busy = λ _. busy_known };
-            stakes = λ j row won is ok. by_place (λ m. Stake m (x m) row (serial_order es) won p now_seat → Stake m (x m) row (serial_order es) won p (seat_in p here st.tables.entries after)) k j (stake_known row won) (λ apart old. stake_alike j (x j) row (serial_order es) won p now_seat (seat_in p here st.tables.entries after) (alike_known j apart) old) (ok.stakes p at);
+            stakes = λ j row won is ok. by_place (λ m. Stake m (x m) row (serial_order es) won p now_seat → Stake m (x m) row (serial_order es) won p (seat_in p here st.tables.entries after)) k j (stake_known row won) (λ apart old. stake_alike (alike_known j apart) old) (ok.stakes p at);
             wins = λ j. ap (when (live p es).decided) (open_read j k e.value (live p es) none_handled);
             fresh = λ j is was. ap (among j) keys_known ∙ was;
           }))
@@ -136,7 +136,7 @@ module _ {V : Type 0} where
       new_seat = seat_in p place' entries' reader
 
       not_among : among k (keys_of (live p es).ops) ≡ false
-      not_among = met now_seat is_busy k unknown
+      not_among = met is_busy k unknown
 
       new_sheet : new_seat.sheet ≡ now_seat.sheet ++ (entry ∷ [])
       new_sheet =
@@ -208,7 +208,7 @@ module _ {V : Type 0} where
           (moved st es (did_read p k row.value ∷ es) st.tables.home st.counter p place' entries' reader at i.many (λ q n is' apart few. sheet_other p q (used_of here) n st.tables.entries entry at is' apart room few) (same_place p reader (live p es)) (λ q apart. other_place p q (doing (reads k row.value) (live q es)) (live q es) apart))
           (record {
             seated = record { free = λ no'. grind (arith, nat_tests); busy = λ _. busy_new };
-            stakes = λ j r won here' ok. by_place (λ m. slice_get st.tables.home.rows m ≡ Some r → KeyOk m (x m) r (serial_order es) (seat_of st es) won → Stake m (x m) r (serial_order es) won p new_seat) k j (λ h ok. let same : row ≡ r = cc in subst (λ (o : Row V). KeyOk k (x k) o (serial_order es) (seat_of st es) won → Stake k (x k) o (serial_order es) won p new_seat) same (stake_new won) ok) (λ apart h ok. stake_alike j (x j) r (serial_order es) won p now_seat new_seat (alike_new j apart) (ok.stakes p at)) here' ok;
+            stakes = λ j r won here' ok. by_place (λ m. slice_get st.tables.home.rows m ≡ Some r → KeyOk m (x m) r (serial_order es) (seat_of st es) won → Stake m (x m) r (serial_order es) won p new_seat) k j (λ h ok. let same : row ≡ r = cc in subst (λ (o : Row V). KeyOk k (x k) o (serial_order es) (seat_of st es) won → Stake k (x k) o (serial_order es) won p new_seat) same (stake_new won) ok) (λ apart h ok. stake_alike (alike_new j apart) (ok.stakes p at)) here' ok;
             wins = λ j. ap (when (live p es).decided) (open_read j k row.value (live p es) none_handled);
             fresh = λ j none was. by_place (λ m. slice_get st.tables.home.rows m ≡ None → among m (keys_of (live p es).ops) ≡ false → among m (keys_of reader.ops) ≡ false) k j (λ gone was. cc) (λ apart none was. among_noted j k (keys_of (live p es).ops) ∙ (grind (arith, nat_tests))) none was;
           })

@@ -52,7 +52,7 @@ module _ {V : Type 0} where
 
   -- ---- a key whose free row has a longer lease
 
-  module _ (k : ℕ) (x : Option V) (row new : Row V) (us : List (Transaction V)) (wts t : ℕ) (r : Renewal wts t row new) where
+  module _ {k : ℕ} {x : Option V} {row new : Row V} {us : List (Transaction V)} {wts t : ℕ} (r : Renewal wts t row new) where
     -- Nobody holds it, so only what was seen is left to show.
     stake_longer : (q : ℕ) → is_place q ≡ true → (s : Seat V) (pl : Place) (es : List (Entry V)) → Stake k x row us None q s
         → (undecided pl ≡ true → (e : Entry V) → found k es ≡ Some e → e.written ≡ false
@@ -74,11 +74,11 @@ module _ {V : Type 0} where
         stake_longer q at s s.place s.sheet old
         (λ u e is unwritten.
         let o = old.seen u e is unwritten in
-        record { fair = o.fair; begins = o.begins; ends = (omega arith); value = o.value; sees = o.sees })
+        record { fair = o.fair; begins = o.begins; ends = omega arith; value = o.value; sees = o.sees })
 
-    key_longer : (seats next : ℕ → Seat V) (p : ℕ) (n : Seat V) → is_place p ≡ true → Moves seats next p n → Stake k x new us None p n
+    key_longer : {seats next : ℕ → Seat V} {p : ℕ} {n : Seat V} → Moves seats next p n → Stake k x new us None p n
         → KeyOk k x row us seats None → KeyOk k x new us next None
-    key_longer seats next p n at m stake old =
+    key_longer {seats} m stake old =
         record {
           fair = (let b = r.longer in let c = r.begins in omega arith);
           stands = λ τ low. old.stands τ (omega arith) ∙ ap (λ (v : V). Some v) (sym r.value);
@@ -156,7 +156,7 @@ module _ {V : Type 0} where
         (record { order = refl; grants = refl; put = refl; freed = refl }) at refl
         (moved st es (did_renew p left ∷ es) st.tables.home st.counter p (onward here) st.tables.entries (live p es)
         at i.many (same_entries p st.tables.entries) refl (λ q _. refl))
-        (alike_ok x es st p (onward_seat was) at
+        (alike_ok at
         (λ k. record { write = refl; decided = refl; undecided = λ u. u; entry = refl; later = omega arith; same = λ _. refl; sees = λ y h. h })
         (λ k. refl)
         (seated_onward frozen was e l.0 (omega arith) is (λ unwritten. grind (arith, nat_tests)) refl refl (λ j _. refl) (busy frozen).writes))
@@ -180,10 +180,10 @@ module _ {V : Type 0} where
       sheet_same = let l = limits frozen e is in sheet_set p (cursor_of here) (used_of here) st.tables.entries longer at l.1 l.2
 
       was_found : found e.key was ≡ Some e
-      was_found = nth_found was (cursor_of here) e (its_apart _ (busy frozen)) is
+      was_found = nth_found was (cursor_of here) e (its_apart (busy frozen)) is
 
       now_found : (found e.key sheet_after ≡ Some longer) × ((k : ℕ) → (k ≡ e.key → ⊥) → found k sheet_after ≡ found k was)
-      now_found = found_set was (cursor_of here) e longer is refl (its_apart _ (busy frozen))
+      now_found = found_set was (cursor_of here) e longer is refl (its_apart (busy frozen))
 
       writes_after : (k : ℕ) (f : Entry V) → found k sheet_after ≡ Some f → last_write k (live p es).ops ≡ write_of f
       writes_after k f =
@@ -242,11 +242,11 @@ module _ {V : Type 0} where
 
       key_after : (won : Option (V × ℕ)) → KeyWas won → (after : Option (V × ℕ)) × KeyNow after
       key_after won ok =
-          (None, go (subst KeyWas (free_won e.key (x e.key) row (serial_order es) (seat_of st es) won ok r.free) ok))
+          (None, go (subst KeyWas (free_won ok r.free) ok))
         where
           stake : KeyWas None → StakeNow sheet_after
           stake ok =
-              stake_longer e.key (x e.key) row new (serial_order es) e.wts here.ts r p at
+              stake_longer r p at
               (seat_of st es p) (onward here) sheet_after (ok.stakes p at)
               (λ u f is' unwritten'.
               let one : longer ≡ f = cc (now_found.0) in
@@ -254,10 +254,7 @@ module _ {V : Type 0} where
 
           go : KeyWas None → KeyNow None
           go ok =
-              key_longer e.key (x e.key) row new (serial_order es) e.wts here.ts r
-              (seat_of st es) (seat_of after_state (did_renew p left ∷ es)) p (seat_in p (onward here) entries_after (live p es)) at seats_after
-              (subst StakeNow (sym sheet_same) (stake ok))
-              ok
+              key_longer r seats_after (subst StakeNow (sym sheet_same) (stake ok)) ok
 
       inv_longer : Inv x (did_renew p left ∷ es) after_state
       inv_longer =

@@ -79,7 +79,7 @@ module _ {V : Type 0} where
     stands : (τ : ℕ) → new.wts ≤ τ → value_upto k x τ us ≡ Some new.value
     quiet : All (λ (t : Transaction V). new.rts < t.ts → among k (keys_of t.ops) ≡ false) us
 
-  module _ (k : ℕ) (x : Option V) (row : Row V) (us : List (Transaction V)) (seats : ℕ → Seat V) (won : Option (V × ℕ)) (p : ℕ) (old : KeyOk k x row us seats won) where
+  module _ {k : ℕ} {x : Option V} {row : Row V} {us : List (Transaction V)} {seats : ℕ → Seat V} {won : Option (V × ℕ)} (p : ℕ) (old : KeyOk k x row us seats won) where
     -- The write that won stands in the row as it stood before.
     put_released : (v : V) (t : ℕ) → won ≡ Some (v, t) → row.holder ≡ p → row.rts < t → Released k x row (record { value = v; wts = t; rts = t; holder = 0 }) us p
     put_released v t wins mine above =
@@ -105,7 +105,7 @@ module _ {V : Type 0} where
           quiet = subst (λ w. All (λ (u : Transaction V). bound w row < u.ts → among k (keys_of u.ops) ≡ false) us) none old.quiet;
         }
 
-  module _ (k : ℕ) (x : Option V) (row new : Row V) (us : List (Transaction V)) (seats next : ℕ → Seat V) (won : Option (V × ℕ)) (p : ℕ) (n : Seat V) where
+  module _ {k : ℕ} {x : Option V} {row new : Row V} {us : List (Transaction V)} {seats next : ℕ → Seat V} {won : Option (V × ℕ)} {p : ℕ} {n : Seat V} where
     -- Where the holder has settled the key, nobody holds it and nobody has won it.
     key_released : is_place p ≡ true → Moves seats next p n → KeyOk k x row us seats won → Released k x row new us p
         → pending_write k n.live ≡ None → undecided n.place ≡ false → KeyOk k x new us next None
@@ -137,7 +137,7 @@ module _ {V : Type 0} where
 
         there : (q : ℕ) → is_place q ≡ true → (q ≡ p → ⊥) → Stake k x new us None q (seats q)
         there q is apart =
-            let none = holds_none k x row us seats won old q is (λ same. apart (sym same ∙ r.mine)) in
+            let none = holds_none old q is (λ same. apart (sym same ∙ r.mine)) in
             record {
               owner = nobody q is ∙ sym none;
               seen = λ u e is' unwritten.
@@ -217,7 +217,7 @@ module _ {V : Type 0} where
             ∙ nth_keyed (sheet p (used_of here) entries) (cursor_of here) e is
 
         its_write : {c : Bool} → e.written ≡ c → last_write e.key now.ops ≡ cond c (Some e.value) None
-        its_write mark = wrote _ busy e.key e (nth_found (sheet p (used_of here) entries) (cursor_of here) e (its_apart _ busy) is) mark
+        its_write mark = wrote busy e.key e (nth_found (sheet p (used_of here) entries) (cursor_of here) e (its_apart busy) is) mark
 
         seated_onward : Seated (seat_in p (onward here) entries then_live)
         seated_onward = record {
@@ -250,7 +250,7 @@ module _ {V : Type 0} where
             inv_moves x es st event p (onward here) entries then_live i
             (record { order = refl; grants = refl; put = no_put now.decided _ (puts es) none; freed = no_free now.decided _ (frees es) none }) at refl
             (onward_moves st.tables.home)
-            (alike_ok x es st p (seat_in p (onward here) entries then_live) at
+            (alike_ok at
             (λ k. record { write = open_read now e.key next_key write k; decided = refl; undecided = λ u. u; entry = refl; later = omega arith; same = λ _. refl; sees = λ y h. h })
             (λ k. refl)
             seated_onward)
@@ -281,7 +281,7 @@ module _ {V : Type 0} where
                   seated = seated_onward;
                   key = λ won old. (
                     None,
-                    key_released e.key (x e.key) row new (serial_order es) (seat_of st es) _ won p _ at
+                    key_released at
                         (onward_moves (with_row st.tables.home e.key new)) old (owed won old)
                         (open_past now e.key next_key) (grind (arith, nat_tests)),
                   );
@@ -305,7 +305,7 @@ module _ {V : Type 0} where
                 ap (λ b. when b (pending_write e.key now)) (busy.decided ∙ wins) ∙ open_here now e.key next_key ∙ its_write written in
                 subst After (sym g.2)
                 (inv_released _ g.0 refl
-                (λ won old. put_released e.key (x e.key) row (serial_order es) (seat_of st es) won p old e.value here.ts
+                (λ won old. put_released p old e.value here.ts
                 ((old.stakes p at).wins e.value write) g.0 g.1))
 
             inv_free : (new : Row V) → eqb here.state 4 ≡ false → free_row p row ≡ grants new
@@ -315,8 +315,8 @@ module _ {V : Type 0} where
                 let undone : (live row.holder es).decided ≡ false = ap (λ q. (live q es).decided) g.0 ∙ busy.decided ∙ loses in
                 subst After (sym g.1)
                 (inv_released _ g.0 refl
-                (λ won old. free_released e.key (x e.key) row (serial_order es) (seat_of st es) won p old
-                (loser_won e.key (x e.key) row (serial_order es) (seat_of st es) won old undone) g.0))
+                (λ won old. free_released p old
+                (loser_won old undone) g.0))
 
             -- A winner puts, a loser frees.
             inv_ended : (new : Row V) → amended st.tables.home.last (ending p here e) row ≡ grants new

@@ -42,7 +42,7 @@ module _ {V : Type 0} where
     turned e plain same s range was =
         inv_moves x es st e p (moved_to s here) st.tables.entries (live p es) i plain at refl
         (moved st es (e ∷ es) st.tables.home st.counter p (moved_to s here) st.tables.entries (live p es) at i.many (same_entries p st.tables.entries) (same p) (λ q _. same q))
-        (alike_ok x es st p n at
+        (alike_ok at
         (λ k. record { write = refl; decided = refl; undecided = λ _. was; entry = refl; later = omega arith; same = λ _. refl; sees = λ y h. h })
         (λ k. refl)
         (record { free = λ no'. grind (arith, nat_tests); busy = λ _. busy_turned s range was ((i.seated p at).busy (grind (arith, nat_tests))) }))

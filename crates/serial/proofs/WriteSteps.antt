@@ -142,7 +142,7 @@ module _ {V : Type 0} where
         stake_there won ok q at_q apart =
             let old = ok.stakes q at_q in
             let r = place_range q at_q in
-            let none = holds_none k (x k) row (serial_order es) (seat_of st es) won ok q at_q (λ same. omega arith) in
+            let none = holds_none ok q at_q (λ same. omega arith) in
             let nobody : eqb p q ≡ false = grind (arith, nat_tests) in
             record {
               owner = nobody ∙ sym none;
@@ -162,7 +162,7 @@ module _ {V : Type 0} where
 
         key_held : (won : Option (V × ℕ)) → KeyOk k (x k) row (serial_order es) (seat_of st es) won → KeyOk k (x k) held_row (serial_order es) (seat_of after (event ∷ es)) None
         key_held won ok =
-            let none = free_won k (x k) row (serial_order es) (seat_of st es) won ok free in
+            let none = free_won ok free in
             record {
               fair = ok.fair;
               stands = λ τ from. ok.stands τ from ∙ ap (λ (w : Option (V × ℕ)). Some (standing w row τ)) none;
@@ -201,7 +201,7 @@ module _ {V : Type 0} where
 
     module _ (k : ℕ) (v : V) (row : Row V) (unknown : found k now_seat.sheet ≡ None) (room : used_of here < 16) where
       not_among : among k (keys_of (live p es).ops) ≡ false
-      not_among = met now_seat busy k unknown
+      not_among = met busy k unknown
 
       pub taken_new : Taken k v row (used_of here) (used_of here + 1)
       taken_new =
@@ -232,7 +232,7 @@ module _ {V : Type 0} where
       at_key = sought_found k now_seat.sheet n e where'
 
       among_known : among k (keys_of (live p es).ops) ≡ true
-      among_known = met now_seat busy k at_key.2
+      among_known = met busy k at_key.2
 
       -- the entry at its place in the sheet, under the same key
       module _ (new : Entry V) (same : new.key ≡ k) where
@@ -243,10 +243,10 @@ module _ {V : Type 0} where
         is_key = same ∙ sym at_key.1
 
         changed_first : found k (set now_seat.sheet n new) ≡ Some new
-        changed_first = ap (λ j. found j (set now_seat.sheet n new)) (sym at_key.1) ∙ (found_set now_seat.sheet n e new at_key.0 is_key (its_apart now_seat busy)).0
+        changed_first = ap (λ j. found j (set now_seat.sheet n new)) (sym at_key.1) ∙ (found_set now_seat.sheet n e new at_key.0 is_key (its_apart busy)).0
 
         changed_others : (j : ℕ) → (j ≡ k → ⊥) → found j (set now_seat.sheet n new) ≡ found j now_seat.sheet
-        changed_others j apart = (found_set now_seat.sheet n e new at_key.0 is_key (its_apart now_seat busy)).1 j (λ is. apart (is ∙ at_key.1))
+        changed_others j apart = (found_set now_seat.sheet n e new at_key.0 is_key (its_apart busy)).1 j (λ is. apart (is ∙ at_key.1))
 
         changed_keys : keyed (set now_seat.sheet n new) ≡ noted k (keys_of (live p es).ops)
         changed_keys = keyed_set now_seat.sheet n e new at_key.0 is_key ∙ busy.keys ∙ sym (known_keys k (keys_of (live p es).ops) among_known)
@@ -266,7 +266,7 @@ module _ {V : Type 0} where
             keys = ap keyed (changed_sheet new refl) ∙ changed_keys new refl;
             first = ap (found k) (changed_sheet new refl) ∙ changed_first new refl;
             others = λ j apart. ap (found j) (changed_sheet new refl) ∙ changed_others new refl j apart;
-            unwritten = wrote now_seat busy k e at_key.2 read;
+            unwritten = wrote busy k e at_key.2 read;
             sees = λ won ok. saw won ok;
           }
         where
@@ -277,7 +277,7 @@ module _ {V : Type 0} where
           saw won ok =
               let l = (ok.stakes p at).seen (grind (arith, nat_tests)) e at_key.2 read in
               let old = l.value e.wts (omega arith) (omega arith) in
-              let now' = ok.stands e.wts (omega arith) ∙ ap (λ (w : Option (V × ℕ)). Some (standing w row e.wts)) (free_won k (x k) row (serial_order es) (seat_of st es) won ok free) in
+              let now' = ok.stands e.wts (omega arith) ∙ ap (λ (w : Option (V × ℕ)). Some (standing w row e.wts)) (free_won ok free) in
               let same : e.value ≡ row.value = cc in
               subst (λ (y : V). Sees k (Some y) (live p es).ops) same l.sees
 
@@ -297,7 +297,7 @@ module _ {V : Type 0} where
         again_seat = seat_in p here again_entries again
 
         last_known : last_write k (live p es).ops ≡ Some e.value
-        last_known = wrote now_seat busy k e at_key.2 written
+        last_known = wrote busy k e at_key.2 written
 
         first_again : found k again_seat.sheet ≡ Some rewritten
         first_again = ap (found k) (changed_sheet rewritten at_key.1) ∙ changed_first rewritten at_key.1
@@ -341,7 +341,7 @@ module _ {V : Type 0} where
             (moved st es (did_write p k v here.ts ∷ es) st.tables.home st.counter p here again_entries again at i.many (λ q m is' apart few. sheet_other p q n m st.tables.entries rewritten at is' apart (room_known rewritten at_key.1) few) (same_place p again (live p es)) (λ q apart. other_place p q (doing (writes k v) (live q es)) (live q es) apart))
             (record {
               seated = record { free = λ no'. grind (arith, nat_tests); busy = λ _. busy_again };
-              stakes = λ j row won is ok. by_place (λ m. Stake m (x m) row (serial_order es) won p now_seat → Stake m (x m) row (serial_order es) won p again_seat) k j (stake_again row won) (λ apart old. stake_alike j (x j) row (serial_order es) won p now_seat again_seat (alike_again j apart) old) (ok.stakes p at);
+              stakes = λ j row won is ok. by_place (λ m. Stake m (x m) row (serial_order es) won p now_seat → Stake m (x m) row (serial_order es) won p again_seat) k j (stake_again row won) (λ apart old. stake_alike (alike_again j apart) old) (ok.stakes p at);
               wins = λ j. ap (λ b. when b (pending_write j again)) undone ∙ sym (no_win x es st p i at open' j);
               fresh = λ j is was. ap (among j) (known_keys k (keys_of (live p es).ops) among_known) ∙ was;
             }))
