@@ -12,7 +12,7 @@ use Rattle.serial.specs.Transactions.{Live, Transaction, among, frees, granted, 
 use Rattle.serial.specs.Serial.{Sorted, held_now}
 use Rattle.serial.proofs.Run.{absent}
 use Rattle.serial.proofs.Seats.{length_put_place, place_range}
-use Rattle.serial.proofs.Invariant.{Alike, Inv, KeyOk, Moves, Seat, Seated, VoidOk, by_place, key_moves, seat_of, stake_alike, void_moves, won_alike, won_open, all_moved}
+use Rattle.serial.proofs.Invariant.{Alike, Inv, KeyOk, Moves, Seat, Seated, VoidOk, by_place, key_moves, seat_of, stake_alike, void_moves, won_alike, won_open, all_moved, KeyIn, StakeIn}
 use Rattle.serial.proofs.Moves.{moved_state, seat_in}
 
 -- One where the row is held.
@@ -71,7 +71,7 @@ module _ {V : Type 0} where
       pub was : slice_get st.tables.home.rows k ≡ Some row
       pub moves : Moves (seat_of st es) (seat_of next_state (e ∷ es)) p here_seat
       pub seated : Seated here_seat
-      pub key : (won : Option (V × ℕ)) → KeyOk k (x k) row (serial_order es) (seat_of st es) won → (after : Option (V × ℕ)) × KeyOk k (x k) new (serial_order es) (seat_of next_state (e ∷ es)) after
+      pub key : (won : Option (V × ℕ)) → KeyIn x es st k row won → (after : Option (V × ℕ)) × KeyOk k (x k) new (serial_order es) (seat_of next_state (e ∷ es)) after
       pub others : (j : ℕ) → (j ≡ k → ⊥) → Alike j (seat_of st es p) here_seat
       pub fresh : (j : ℕ) → (j ≡ k → ⊥) → among j (keys_of l.ops) ≡ among j (keys_of (live p es).ops)
 

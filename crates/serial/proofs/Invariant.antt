@@ -126,11 +126,18 @@ seat_of st es p =
       live = live p es;
     }
 
+-- What holds of a key of the home with its row, and what a place has at stake in it.
+abbrev pub KeyIn : {V : Type 0} → (ℕ → Option V) → List (Event V) → Store V → ℕ → Row V → Option (V × ℕ) → Type 0
+KeyIn x es st k row won = KeyOk k (x k) row (serial_order es) (seat_of st es) won
+
+abbrev pub StakeIn : {V : Type 0} → (ℕ → Option V) → List (Event V) → ℕ → Row V → Option (V × ℕ) → ℕ → Seat V → Type 0
+StakeIn x es k row won p s = Stake k (x k) row (serial_order es) won p s
+
 pub record Inv {V : Type 0} (x : ℕ → Option V) (es : List (Event V)) (st : Store V) : Type 0 where
   pub many : 64 ≤ length st.tables.places
   pub long : 1024 ≤ length st.tables.entries
   pub seated : (p : ℕ) → is_place p ≡ true → Seated (seat_of st es p)
-  pub keys : (k : ℕ) (row : Row V) → slice_get st.tables.home.rows k ≡ Some row → (won : Option (V × ℕ)) × KeyOk k (x k) row (serial_order es) (seat_of st es) won
+  pub keys : (k : ℕ) (row : Row V) → slice_get st.tables.home.rows k ≡ Some row → (won : Option (V × ℕ)) × KeyIn x es st k row won
   pub voids : (k : ℕ) → slice_get st.tables.home.rows k ≡ None → VoidOk k (x k) (serial_order es) (seat_of st es)
   pub sorted : Sorted (serial_order es)
   pub numbered : All (λ (t : Transaction V). t.number ≤ st.counter) (serial_order es)

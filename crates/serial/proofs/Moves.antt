@@ -14,7 +14,7 @@ use Rattle.serial.specs.Events.{Event, Step, Store, by_did, by_turn, refused}
 use Rattle.serial.specs.Transactions.{Live, Transaction, among, frees, granted, keys_of, live, puts, serial_order, unsettled_write}
 use Rattle.serial.specs.Serial.{Sorted}
 use Rattle.serial.proofs.Seats.{Entered, by_entered, length_put_place, place_at, place_other, place_same}
-use Rattle.serial.proofs.Invariant.{Alike, Inv, KeyOk, Moves, Seat, Seated, Stake, VoidOk, key_moves, seat_of, stake_alike, void_moves, won_alike, all_moved}
+use Rattle.serial.proofs.Invariant.{Alike, Inv, KeyOk, Moves, Seat, Seated, Stake, VoidOk, key_moves, seat_of, stake_alike, void_moves, won_alike, all_moved, KeyIn, StakeIn, by_place, Stake}
 
 -- ---- events of a place
 
@@ -87,7 +87,7 @@ module _ {V : Type 0} where
   -- What a step must show of its seat, key by key.
   pub record MovedOk (x : ℕ → Option V) (es : List (Event V)) (st : Store V) (p : ℕ) (n : Seat V) : Type 0 where
     pub seated : Seated n
-    pub stakes : (k : ℕ) (row : Row V) (won : Option (V × ℕ)) → slice_get st.tables.home.rows k ≡ Some row → KeyOk k (x k) row (serial_order es) (seat_of st es) won → Stake k (x k) row (serial_order es) won p n
+    pub stakes : (k : ℕ) (row : Row V) (won : Option (V × ℕ)) → slice_get st.tables.home.rows k ≡ Some row → KeyIn x es st k row won → StakeIn x es k row won p n
     pub wins : (k : ℕ) → unsettled_write k n.live ≡ unsettled_write k (seat_of st es p).live
     pub fresh : (k : ℕ) → slice_get st.tables.home.rows k ≡ None → among k (keys_of (seat_of st es p).live.ops) ≡ false → among k (keys_of n.live.ops) ≡ false
 
@@ -118,6 +118,15 @@ module _ {V : Type 0} where
 
         n : Seat V
         n = seat_in p pl entries l
+
+  -- What a place has at stake, where every key but one is alike.
+  pub stakes_but : (x : ℕ → Option V) (es : List (Event V)) (st : Store V) {p : ℕ} {n : Seat V} → is_place p ≡ true
+      → (k : ℕ) → ((row : Row V) (won : Option (V × ℕ)) → slice_get st.tables.home.rows k ≡ Some row → KeyIn x es st k row won → StakeIn x es k row won p n)
+      → ((j : ℕ) → (j ≡ k → ⊥) → Alike j (seat_of st es p) n)
+      → (j : ℕ) (row : Row V) (won : Option (V × ℕ)) → slice_get st.tables.home.rows j ≡ Some row → KeyIn x es st j row won → StakeIn x es j row won p n
+  stakes_but x es st {p} {n} at k here alike j row won =
+      by_place (λ m. slice_get st.tables.home.rows m ≡ Some row → KeyIn x es st m row won → StakeIn x es m row won p n) k j
+      (here row won) (λ apart _ ok. stake_alike (alike j apart) (ok.stakes p at))
 
   -- The same where every key is alike.
   pub alike_ok : {x : ℕ → Option V} {es : List (Event V)} {st : Store V} {p : ℕ} {n : Seat V} → is_place p ≡ true → ((k : ℕ) → Alike k (seat_of st es p) n) → ((k : ℕ) → among k (keys_of n.live.ops) ≡ among k (keys_of (live p es).ops)) → Seated n → MovedOk x es st p n

@@ -18,8 +18,8 @@ use Rattle.serial.specs.Transactions.{Live, Op, among, doing, is_some, keys_of, 
 use Rattle.serial.proofs.Run.{Sees, along, along_unwritten, along_written, among_noted, never_written, sees_skip, value_upto, when_none, written_among, open_is_last}
 use Rattle.serial.proofs.Seats.{blank, length_put_entry, place_at, sheet_other, sheet_push}
 use Rattle.serial.proofs.Keys.{found, found_pushed, found_unpushed, keyed, keyed_push, sought_found, sought_none}
-use Rattle.serial.proofs.Invariant.{Alike, Busy, Inv, KeyOk, LeaseOk, Seat, Seated, Stake, by_place, engaged, seat_of, stake_alike, undecided, won_alike, write_of, met, wrote}
-use Rattle.serial.proofs.Moves.{Kept, entry_kept, inv_moves, inv_refused, moved, moved_state, other_place, same_place, seat_in}
+use Rattle.serial.proofs.Invariant.{Alike, Busy, Inv, KeyOk, LeaseOk, Seat, Seated, Stake, by_place, engaged, seat_of, stake_alike, undecided, won_alike, write_of, met, wrote, KeyIn, StakeIn}
+use Rattle.serial.proofs.Moves.{Kept, entry_kept, inv_moves, inv_refused, moved, moved_state, other_place, same_place, seat_in, stakes_but}
 use Rattle.serial.proofs.Turns.{same_entries}
 
 pub known_keys : (k : ℕ) (ks : List ℕ) → among k ks ≡ true → noted k ks ≡ ks
@@ -81,7 +81,7 @@ module _ {V : Type 0} where
           record { few = b.few; within = b.within; sized = b.sized; keys = b.keys ∙ sym keys_known; writes = b.writes; decided = b.decided; handled = b.handled; passed = b.passed }
 
       -- what was read last is what the transaction has
-      stake_known : (row : Row V) (won : Option (V × ℕ)) → Stake k (x k) row (serial_order es) won p now_seat → Stake k (x k) row (serial_order es) won p (seat_in p here st.tables.entries after)
+      stake_known : (row : Row V) (won : Option (V × ℕ)) → StakeIn x es k row won p now_seat → StakeIn x es k row won p (seat_in p here st.tables.entries after)
       stake_known row won old =
           record {
             owner = old.owner ∙ ap is_some (sym (open_read k k e.value (live p es) none_handled));
@@ -112,7 +112,7 @@ module _ {V : Type 0} where
           (moved st es (did_read p k e.value ∷ es) st.tables.home st.counter p here st.tables.entries after at i.many (same_entries p st.tables.entries) (same_place p after (live p es)) (λ q apart. other_place p q (doing (reads k e.value) (live q es)) (live q es) apart))
           (record {
             seated = record { free = λ no'. grind (arith, nat_tests); busy = λ _. busy_known };
-            stakes = λ j row won is ok. by_place (λ m. Stake m (x m) row (serial_order es) won p now_seat → Stake m (x m) row (serial_order es) won p (seat_in p here st.tables.entries after)) k j (stake_known row won) (λ apart old. stake_alike (alike_known j apart) old) (ok.stakes p at);
+            stakes = stakes_but x es st at k (λ row won _ ok. stake_known row won (ok.stakes p at)) alike_known;
             wins = λ j. ap (when (live p es).decided) (open_read j k e.value (live p es) none_handled);
             fresh = λ j is was. ap (among j) keys_known ∙ was;
           }))
@@ -167,7 +167,7 @@ module _ {V : Type 0} where
           }
 
       -- the row's lease is one under which its value stands
-      lease_new : (won : Option (V × ℕ)) → KeyOk k (x k) row (serial_order es) (seat_of st es) won → LeaseOk k (x k) row (serial_order es) new_seat entry
+      lease_new : (won : Option (V × ℕ)) → KeyIn x es st k row won → LeaseOk k (x k) row (serial_order es) new_seat entry
       lease_new won ok =
           record {
             fair = ok.fair;
@@ -181,7 +181,7 @@ module _ {V : Type 0} where
           go None τ upto above = refl
           go (Some w) τ upto above = let late : leb w.1 τ ≡ false = grind (arith, nat_tests) in ap (λ b. cond b w.0 row.value) late
 
-      stake_new : (won : Option (V × ℕ)) → KeyOk k (x k) row (serial_order es) (seat_of st es) won → Stake k (x k) row (serial_order es) won p new_seat
+      stake_new : (won : Option (V × ℕ)) → KeyIn x es st k row won → StakeIn x es k row won p new_seat
       stake_new won ok =
           record {
             owner = (ok.stakes p at).owner ∙ ap is_some (sym (open_read k k row.value (live p es) none_handled));
@@ -208,7 +208,9 @@ module _ {V : Type 0} where
           (moved st es (did_read p k row.value ∷ es) st.tables.home st.counter p place' entries' reader at i.many (λ q n is' apart few. sheet_other p q (used_of here) n st.tables.entries entry at is' apart room few) (same_place p reader (live p es)) (λ q apart. other_place p q (doing (reads k row.value) (live q es)) (live q es) apart))
           (record {
             seated = record { free = λ no'. grind (arith, nat_tests); busy = λ _. busy_new };
-            stakes = λ j r won here' ok. by_place (λ m. slice_get st.tables.home.rows m ≡ Some r → KeyOk m (x m) r (serial_order es) (seat_of st es) won → Stake m (x m) r (serial_order es) won p new_seat) k j (λ h ok. let same : row ≡ r = cc in subst (λ (o : Row V). KeyOk k (x k) o (serial_order es) (seat_of st es) won → Stake k (x k) o (serial_order es) won p new_seat) same (stake_new won) ok) (λ apart h ok. stake_alike (alike_new j apart) (ok.stakes p at)) here' ok;
+            stakes = stakes_but x es st at k
+                (λ r won h ok. let same : row ≡ r = cc in subst (λ (o : Row V). KeyIn x es st k o won → StakeIn x es k o won p new_seat) same (stake_new won) ok)
+                alike_new;
             wins = λ j. ap (when (live p es).decided) (open_read j k row.value (live p es) none_handled);
             fresh = λ j none was. by_place (λ m. slice_get st.tables.home.rows m ≡ None → among m (keys_of (live p es).ops) ≡ false → among m (keys_of reader.ops) ≡ false) k j (λ gone was. cc) (λ apart none was. among_noted j k (keys_of (live p es).ops) ∙ (grind (arith, nat_tests))) none was;
           })

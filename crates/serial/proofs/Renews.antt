@@ -20,7 +20,7 @@ use Rattle.serial.specs.Transactions.{Transaction, last_write, live, serial_orde
 use Rattle.serial.proofs.Run.{value_upto}
 use Rattle.serial.proofs.Seats.{length_put_entry, place_at, place_range, sheet_other, sheet_set}
 use Rattle.serial.proofs.Keys.{found, found_set, keyed, keyed_set, nth_found}
-use Rattle.serial.proofs.Invariant.{Busy, Inv, KeyOk, LeaseOk, Moves, Seat, Seated, Stake, by_place, seat_of, undecided, write_of, all_moved, its_apart}
+use Rattle.serial.proofs.Invariant.{Busy, Inv, KeyOk, LeaseOk, Moves, Seat, Seated, Stake, by_place, seat_of, undecided, write_of, all_moved, its_apart, KeyIn, StakeIn}
 use Rattle.serial.proofs.Moves.{Kept, OnlyAt, alike_ok, entry_kept, inv_moves, inv_refused, moved, moved_state, seat_in}
 use Rattle.serial.proofs.Turns.{inv_lost, same_entries}
 use Rattle.serial.proofs.Changes.{free_won, inv_changes, with_row}
@@ -216,13 +216,13 @@ module _ {V : Type 0} where
 
       -- what held of the key, and what is to hold
       abbrev KeyWas : Option (V × ℕ) → Type 0
-      KeyWas won = KeyOk e.key (x e.key) row (serial_order es) (seat_of st es) won
+      KeyWas won = KeyIn x es st e.key row won
 
       abbrev KeyNow : Option (V × ℕ) → Type 0
       KeyNow won = KeyOk e.key (x e.key) new (serial_order es) (seat_of after_state (did_renew p left ∷ es)) won
 
       abbrev StakeNow : List (Entry V) → Type 0
-      StakeNow sh = Stake e.key (x e.key) new (serial_order es) None p (onward_seat sh)
+      StakeNow sh = StakeIn x es e.key new None p (onward_seat sh)
 
       -- The value that was read is the one that stands, for as long as the new lease.
       lease_after : KeyWas None → LeaseOk e.key (x e.key) new (serial_order es) (onward_seat sheet_after) longer

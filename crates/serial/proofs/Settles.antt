@@ -18,7 +18,7 @@ use Rattle.serial.specs.Transactions.{Live, Transaction, among, frees, nothing_d
 use Rattle.serial.proofs.Run.{value_upto}
 use Rattle.serial.proofs.Seats.{place_at, place_range}
 use Rattle.serial.proofs.Keys.{among_drop, among_here, apart_past, drop_none, keys_apart, nth_found, nth_keyed, nth_keyed_none}
-use Rattle.serial.proofs.Invariant.{Busy, Inv, KeyOk, Moves, Seat, Seated, Stake, bound, by_place, seat_of, standing, undecided, won_open, all_moved, its_apart, wrote}
+use Rattle.serial.proofs.Invariant.{Busy, Inv, KeyOk, Moves, Seat, Seated, Stake, bound, by_place, seat_of, standing, undecided, won_open, all_moved, its_apart, wrote, KeyIn, StakeIn}
 use Rattle.serial.proofs.Moves.{Kept, alike_ok, entry_kept, inv_moves, inv_refused, moved, moved_state, other_place, same_place, seat_in}
 use Rattle.serial.proofs.Changes.{held_one, holds_none, inv_changes, loser_won, with_row}
 use Rattle.serial.proofs.Turns.{same_entries}
@@ -263,7 +263,7 @@ module _ {V : Type 0} where
 
           module _ (row : Row V) (was : slice_get st.tables.home.rows e.key ≡ Some row) where
             inv_released : (new : Row V) → row.holder ≡ p → new.holder ≡ 0
-                → ((won : Option (V × ℕ)) → KeyOk e.key (x e.key) row (serial_order es) (seat_of st es) won → Released e.key (x e.key) row new (serial_order es) p)
+                → ((won : Option (V × ℕ)) → KeyIn x es st e.key row won → Released e.key (x e.key) row new (serial_order es) p)
                 → After new
             inv_released new mine free owed =
                 inv_changes x es st event p (onward here) entries then_live e.key row new i at

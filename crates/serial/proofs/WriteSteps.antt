@@ -20,8 +20,8 @@ use Rattle.serial.specs.Transactions.{Live, Op, Transaction, among, doing, is_no
 use Rattle.serial.proofs.Run.{Sees, among_noted, never_written, sees_skip, open_is_last}
 use Rattle.serial.proofs.Seats.{length_put_entry, place_at, place_range, sheet_other, sheet_push, sheet_set}
 use Rattle.serial.proofs.Keys.{found, found_pushed, found_set, found_unpushed, keyed, keyed_push, keyed_set, sought_found, sought_none}
-use Rattle.serial.proofs.Invariant.{Alike, Busy, HoldOk, Inv, KeyOk, LeaseOk, Seat, Seated, Stake, ahead, by_place, seat_of, stake_alike, standing, undecided, write_of, won_open, its_apart, met, wrote}
-use Rattle.serial.proofs.Moves.{Kept, entry_kept, inv_moves, inv_refused, moved, moved_state, other_place, same_place, seat_in}
+use Rattle.serial.proofs.Invariant.{Alike, Busy, HoldOk, Inv, KeyOk, LeaseOk, Seat, Seated, Stake, ahead, by_place, seat_of, stake_alike, standing, undecided, write_of, won_open, its_apart, met, wrote, KeyIn, StakeIn, all_moved, Moves, bound}
+use Rattle.serial.proofs.Moves.{Kept, entry_kept, inv_moves, inv_refused, moved, moved_state, other_place, same_place, seat_in, stakes_but}
 use Rattle.serial.proofs.Turns.{inv_lost}
 use Rattle.serial.proofs.Changes.{free_won, held_one, holds_none, inv_changes, with_row}
 use Rattle.serial.proofs.ReadSteps.{is_busy, known_keys, new_keys, no_win, none_handled, not_decided, same_state}
@@ -113,7 +113,7 @@ module _ {V : Type 0} where
         pub first : found k new_seat.sheet ≡ Some entry
         pub others : (j : ℕ) → (j ≡ k → ⊥) → found j new_seat.sheet ≡ found j now_seat.sheet
         pub unwritten : last_write k (live p es).ops ≡ None
-        pub sees : (won : Option (V × ℕ)) → KeyOk k (x k) row (serial_order es) (seat_of st es) won → Sees k (Some row.value) (live p es).ops
+        pub sees : (won : Option (V × ℕ)) → KeyIn x es st k row won → Sees k (Some row.value) (live p es).ops
 
       module _ (t : Taken) (free : row.holder ≡ 0) (is : slice_get st.tables.home.rows k ≡ Some row) where
         busy_held : Busy new_seat
@@ -129,7 +129,7 @@ module _ {V : Type 0} where
               passed = λ frozen j e below is no'. absurd (omega arith);
             }
 
-        stake_here : (won : Option (V × ℕ)) → KeyOk k (x k) row (serial_order es) (seat_of st es) won → Stake k (x k) held_row (serial_order es) None p new_seat
+        stake_here : (won : Option (V × ℕ)) → KeyIn x es st k row won → StakeIn x es k held_row None p new_seat
         stake_here won ok =
             record {
               owner = (let yes' : eqb p p ≡ true = grind (arith, nat_tests) in yes' ∙ ap is_some (sym (open_here k v (live p es) unhandled)));
@@ -138,7 +138,7 @@ module _ {V : Type 0} where
               wins = λ v' is. absurd (never_won k v v' is);
             }
 
-        stake_there : (won : Option (V × ℕ)) → KeyOk k (x k) row (serial_order es) (seat_of st es) won → (q : ℕ) → is_place q ≡ true → (q ≡ p → ⊥) → Stake k (x k) held_row (serial_order es) None q (seat_of st es q)
+        stake_there : (won : Option (V × ℕ)) → KeyIn x es st k row won → (q : ℕ) → is_place q ≡ true → (q ≡ p → ⊥) → StakeIn x es k held_row None q (seat_of st es q)
         stake_there won ok q at_q apart =
             let old = ok.stakes q at_q in
             let r = place_range q at_q in
@@ -157,21 +157,21 @@ module _ {V : Type 0} where
         abbrev event : Event V
         event = did_write p k v (max here.ts (row.rts + 1))
 
-        moves : Rattle.serial.proofs.Invariant.Moves (seat_of st es) (seat_of after (event ∷ es)) p new_seat
+        moves : Moves (seat_of st es) (seat_of after (event ∷ es)) p new_seat
         moves = moved st es (event ∷ es) (with_row st.tables.home k held_row) st.counter p place' entries' writer at i.many (λ q n is' apart few. sheet_other p q at' n st.tables.entries entry at is' apart t.room few) (same_place p writer (live p es)) (λ q apart. other_place p q (doing (writes k v) (live q es)) (live q es) apart)
 
-        key_held : (won : Option (V × ℕ)) → KeyOk k (x k) row (serial_order es) (seat_of st es) won → KeyOk k (x k) held_row (serial_order es) (seat_of after (event ∷ es)) None
+        key_held : (won : Option (V × ℕ)) → KeyIn x es st k row won → KeyOk k (x k) held_row (serial_order es) (seat_of after (event ∷ es)) None
         key_held won ok =
             let none = free_won ok free in
             record {
               fair = ok.fair;
               stands = λ τ from. ok.stands τ from ∙ ap (λ (w : Option (V × ℕ)). Some (standing w row τ)) none;
-              quiet = subst (λ (w : Option (V × ℕ)). Rattle.std.specs.List.AllByRecursion (λ (u : Transaction V). Rattle.serial.proofs.Invariant.bound w row < u.ts → among k (keys_of u.ops) ≡ false) (serial_order es)) none ok.quiet;
+              quiet = subst (λ (w : Option (V × ℕ)). Rattle.std.specs.List.AllByRecursion (λ (u : Transaction V). bound w row < u.ts → among k (keys_of u.ops) ≡ false) (serial_order es)) none ok.quiet;
               sees = ok.sees;
               above = tt;
               winner = λ w is. cc;
               holder = inr at;
-              stakes = λ q at_q. by_place (λ r. is_place r ≡ true → Stake k (x k) held_row (serial_order es) None r (seat_of after (event ∷ es) r)) p q (λ _. subst (Stake k (x k) held_row (serial_order es) None p) (sym moves.here) (stake_here won ok)) (λ apart at_q. subst (Stake k (x k) held_row (serial_order es) None q) (sym (moves.others q at_q apart)) (stake_there won ok q at_q apart)) at_q;
+              stakes = all_moved moves (StakeIn x es k held_row None) (stake_here won ok) (stake_there won ok);
             }
 
         pub write_held : Inv x (event ∷ es) after
@@ -273,7 +273,7 @@ module _ {V : Type 0} where
           new : Entry V
           new = record { key = k; wts = row.wts; rts = row.rts; value = v; written = true }
 
-          saw : (won : Option (V × ℕ)) → KeyOk k (x k) row (serial_order es) (seat_of st es) won → Sees k (Some row.value) (live p es).ops
+          saw : (won : Option (V × ℕ)) → KeyIn x es st k row won → Sees k (Some row.value) (live p es).ops
           saw won ok =
               let l = (ok.stakes p at).seen (grind (arith, nat_tests)) e at_key.2 read in
               let old = l.value e.wts (omega arith) (omega arith) in
@@ -318,7 +318,7 @@ module _ {V : Type 0} where
               passed = λ frozen j f below is no'. absurd (omega arith);
             }
 
-        stake_again : (row : Row V) (won : Option (V × ℕ)) → Stake k (x k) row (serial_order es) won p now_seat → Stake k (x k) row (serial_order es) won p again_seat
+        stake_again : (row : Row V) (won : Option (V × ℕ)) → StakeIn x es k row won p now_seat → StakeIn x es k row won p again_seat
         stake_again row won old =
             let was : is_some (pending_write k (live p es)) ≡ true = ap is_some (open_is_last k (live p es) unhandled ∙ last_known) in
             record {
@@ -341,7 +341,7 @@ module _ {V : Type 0} where
             (moved st es (did_write p k v here.ts ∷ es) st.tables.home st.counter p here again_entries again at i.many (λ q m is' apart few. sheet_other p q n m st.tables.entries rewritten at is' apart (room_known rewritten at_key.1) few) (same_place p again (live p es)) (λ q apart. other_place p q (doing (writes k v) (live q es)) (live q es) apart))
             (record {
               seated = record { free = λ no'. grind (arith, nat_tests); busy = λ _. busy_again };
-              stakes = λ j row won is ok. by_place (λ m. Stake m (x m) row (serial_order es) won p now_seat → Stake m (x m) row (serial_order es) won p again_seat) k j (stake_again row won) (λ apart old. stake_alike (alike_again j apart) old) (ok.stakes p at);
+              stakes = stakes_but x es st at k (λ row won _ ok. stake_again row won (ok.stakes p at)) alike_again;
               wins = λ j. ap (λ b. when b (pending_write j again)) undone ∙ sym (no_win x es st p i at open' j);
               fresh = λ j is was. ap (among j) (known_keys k (keys_of (live p es).ops) among_known) ∙ was;
             }))
