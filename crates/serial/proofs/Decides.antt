@@ -21,7 +21,7 @@ use Rattle.serial.proofs.Seats.{by_entered, length_put_place, place_at}
 use Rattle.serial.proofs.Keys.{found}
 use Rattle.serial.proofs.Run.{Newest, Ordered, Quiet, Sees, AfterSkip, all_insert, along, along_skip, along_unwritten, along_written, ordered, quiet_see, quiet_value, sees_skip, sorted_insert, value_upto, write_after, write_before, write_see, open_is_last, never_written}
 use Rattle.serial.proofs.Invariant.{Busy, HoldOk, Inv, KeyOk, Moves, Seat, Seated, Stake, ahead, bound, seat_of, standing, undecided, void_moves, won_open, all_moved, won_moved, met}
-use Rattle.serial.proofs.Moves.{inv_refused, moved, moved_state, other_place, same_place}
+use Rattle.serial.proofs.Moves.{inv_refused, moved, moved_state}
 use Rattle.serial.proofs.Turns.{same_entries}
 use Rattle.serial.proofs.Changes.{holds_it, loser_won}
 
@@ -236,8 +236,7 @@ module _ {V : Type 0} where
       moves =
           moved st es (event ∷ es) st.tables.home number p (moved_to 4 here) st.tables.entries (deciding_now (live p es)) at i.many
           (same_entries p st.tables.entries)
-          (same_place p (deciding_now (live p es)) (live p es))
-          (λ q apart. other_place p q (deciding_now (live q es)) (live q es) apart)
+          (grind (arith, nat_tests)) (λ q apart. grind (arith, nat_tests))
 
       -- the counter was within its limit, so that its number is above all
       counts : count_of st.counter ≡ st.counter

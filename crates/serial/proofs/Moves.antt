@@ -16,14 +16,6 @@ use Rattle.serial.specs.Serial.{Sorted}
 use Rattle.serial.proofs.Seats.{Entered, by_entered, length_put_place, place_at, place_other, place_same}
 use Rattle.serial.proofs.Invariant.{Alike, Inv, KeyOk, Moves, Seat, Seated, Stake, VoidOk, key_moves, seat_of, stake_alike, void_moves, won_alike, all_moved, KeyIn, StakeIn, by_place, Stake}
 
--- ---- events of a place
-
-pub same_place : {A : Type 0} (p : ℕ) (a b : A) → cond (eqb p p) a b ≡ a
-same_place p a b = grind (arith, nat_tests)
-
-pub other_place : {A : Type 0} (p q : ℕ) (a b : A) → (q ≡ p → ⊥) → cond (eqb p q) a b ≡ b
-other_place p q a b apart = grind (arith, nat_tests)
-
 module _ {V : Type 0} where
   -- ---- a refused call that alters nothing
 

@@ -19,7 +19,7 @@ use Rattle.serial.proofs.Run.{Sees, along, along_unwritten, along_written, among
 use Rattle.serial.proofs.Seats.{blank, length_put_entry, place_at, sheet_other, sheet_push}
 use Rattle.serial.proofs.Keys.{found, found_pushed, found_unpushed, keyed, keyed_push, sought_found, sought_none}
 use Rattle.serial.proofs.Invariant.{Alike, Busy, Inv, KeyOk, LeaseOk, Seat, Seated, Stake, by_place, engaged, seat_of, stake_alike, undecided, won_alike, write_of, met, wrote, KeyIn, StakeIn}
-use Rattle.serial.proofs.Moves.{Kept, entry_kept, inv_moves, inv_refused, moved, moved_state, other_place, same_place, seat_in, stakes_but}
+use Rattle.serial.proofs.Moves.{Kept, entry_kept, inv_moves, inv_refused, moved, moved_state, seat_in, stakes_but}
 use Rattle.serial.proofs.Turns.{same_entries}
 
 pub known_keys : (k : ℕ) (ks : List ℕ) → among k ks ≡ true → noted k ks ≡ ks
@@ -109,7 +109,7 @@ module _ {V : Type 0} where
       read_known =
           subst (λ (s : Store V). Inv x (did_read p k e.value ∷ es) s) (same_state st p)
           (inv_moves x es st (did_read p k e.value) p here st.tables.entries after i (record { order = refl; grants = refl; put = refl; freed = refl }) at refl
-          (moved st es (did_read p k e.value ∷ es) st.tables.home st.counter p here st.tables.entries after at i.many (same_entries p st.tables.entries) (same_place p after (live p es)) (λ q apart. other_place p q (doing (reads k e.value) (live q es)) (live q es) apart))
+          (moved st es (did_read p k e.value ∷ es) st.tables.home st.counter p here st.tables.entries after at i.many (same_entries p st.tables.entries) (grind (arith, nat_tests)) (λ q apart. grind (arith, nat_tests)))
           (record {
             seated = record { free = λ no'. grind (arith, nat_tests); busy = λ _. busy_known };
             stakes = stakes_but x es st at k (λ row won _ ok. stake_known row won (ok.stakes p at)) alike_known;
@@ -205,7 +205,7 @@ module _ {V : Type 0} where
       pub read_new : slice_get st.tables.home.rows k ≡ Some row → Inv x (did_read p k row.value ∷ es) (moved_state st st.tables.home st.counter p place' entries')
       read_new is =
           inv_moves x es st (did_read p k row.value) p place' entries' reader i (record { order = refl; grants = refl; put = refl; freed = refl }) at (length_put_entry st.tables.entries p (used_of here) entry)
-          (moved st es (did_read p k row.value ∷ es) st.tables.home st.counter p place' entries' reader at i.many (λ q n is' apart few. sheet_other p q (used_of here) n st.tables.entries entry at is' apart room few) (same_place p reader (live p es)) (λ q apart. other_place p q (doing (reads k row.value) (live q es)) (live q es) apart))
+          (moved st es (did_read p k row.value ∷ es) st.tables.home st.counter p place' entries' reader at i.many (λ q n is' apart few. sheet_other p q (used_of here) n st.tables.entries entry at is' apart room few) (grind (arith, nat_tests)) (λ q apart. grind (arith, nat_tests)))
           (record {
             seated = record { free = λ no'. grind (arith, nat_tests); busy = λ _. busy_new };
             stakes = stakes_but x es st at k

@@ -19,7 +19,7 @@ use Rattle.serial.proofs.Run.{value_upto}
 use Rattle.serial.proofs.Seats.{place_at, place_range}
 use Rattle.serial.proofs.Keys.{among_drop, among_here, apart_past, drop_none, keys_apart, nth_found, nth_keyed, nth_keyed_none}
 use Rattle.serial.proofs.Invariant.{Busy, Inv, KeyOk, Moves, Seat, Seated, Stake, bound, by_place, seat_of, standing, undecided, won_open, all_moved, its_apart, wrote, KeyIn, StakeIn}
-use Rattle.serial.proofs.Moves.{Kept, alike_ok, entry_kept, inv_moves, inv_refused, moved, moved_state, other_place, same_place, seat_in}
+use Rattle.serial.proofs.Moves.{Kept, alike_ok, entry_kept, inv_moves, inv_refused, moved, moved_state, seat_in}
 use Rattle.serial.proofs.Changes.{held_one, holds_none, inv_changes, loser_won, with_row}
 use Rattle.serial.proofs.Turns.{same_entries}
 
@@ -189,7 +189,7 @@ module _ {V : Type 0} where
           inv_moves x es st (did_settle p 0 true) p (freed here) entries nothing_done i
           (record { order = refl; grants = refl; put = no_put now.decided 0 (puts es) refl; freed = no_free now.decided 0 (frees es) refl }) at refl
           (moved st es (did_settle p 0 true ∷ es) st.tables.home st.counter p (freed here) entries nothing_done at i.many (same_entries p entries)
-          (same_place p nothing_done now) (λ q apart. other_place p q nothing_done (live q es) apart))
+          (grind (arith, nat_tests)) (λ q apart. grind (arith, nat_tests)))
           (record {
             seated = record { free = λ _. refl; busy = λ yes'. cc };
             stakes = λ k row won is' ok. record {
@@ -240,7 +240,7 @@ module _ {V : Type 0} where
         onward_moves : (home : Meaning V) → Moves (seat_of st es) (seat_of (moved_state st home st.counter p (onward here) entries) (event ∷ es)) p (seat_in p (onward here) entries then_live)
         onward_moves home =
             moved st es (event ∷ es) home st.counter p (onward here) entries then_live at i.many (same_entries p entries)
-            (same_place p then_live now) (λ q apart. other_place p q (settling_now false (live q es)) (live q es) apart)
+            (grind (arith, nat_tests)) (λ q apart. grind (arith, nat_tests))
 
         -- A key that was only read: nothing but the cursor.
         inv_read : e.written ≡ false → Inv x (event ∷ es) (moved_state st st.tables.home st.counter p (onward here) entries)

@@ -13,7 +13,7 @@ use Rattle.serial.specs.Transactions.{Live, nothing_done, is_some, live, pending
 use Rattle.serial.proofs.Seats.{place_at, sheet_none}
 use Rattle.serial.proofs.Keys.{found, keyed}
 use Rattle.serial.proofs.Invariant.{Busy, Inv, Seat, seat_of, undecided}
-use Rattle.serial.proofs.Moves.{OnlyAt, Plain, alike_ok, inv_moves, inv_refused, moved, moved_state, other_place, same_place, seat_in, turn_kept}
+use Rattle.serial.proofs.Moves.{OnlyAt, Plain, alike_ok, inv_moves, inv_refused, moved, moved_state, seat_in, turn_kept}
 
 module _ {V : Type 0} where
   pub same_entries : (p : ℕ) (entries : List (Entry V)) → OnlyAt p entries entries
@@ -92,7 +92,7 @@ module _ {V : Type 0} where
             let was_idle : live p es ≡ nothing_done = (i.seated p at).free (grind (arith, nat_tests)) in
             let empty = sheet_none {V = V} p st.tables.entries in
             inv_moves x es st (did_begin p) p fresh st.tables.entries nothing_done i (record { order = refl; grants = refl; put = refl; freed = refl }) at refl
-            (moved st es (did_begin p ∷ es) st.tables.home st.counter p fresh st.tables.entries nothing_done at i.many (same_entries p st.tables.entries) (same_place p nothing_done (live p es)) (λ q apart. other_place p q nothing_done (live q es) apart))
+            (moved st es (did_begin p ∷ es) st.tables.home st.counter p fresh st.tables.entries nothing_done at i.many (same_entries p st.tables.entries) (grind (arith, nat_tests)) (λ q apart. grind (arith, nat_tests)))
             (record {
               seated = record {
                 free = λ no'. cc;

@@ -21,7 +21,6 @@ use Rattle.serial.specs.Events.{Event, Store, did_abort, did_begin, did_decide, 
 use Rattle.serial.specs.Transactions.{InTurn, Live, Undecided, keys_of, live, running}
 use Rattle.serial.proofs.Seats.{Entered, by_entered, place_at, place_other, place_same}
 use Rattle.serial.proofs.Invariant.{Inv, Runs, by_place, engaged, seat_of}
-use Rattle.serial.proofs.Moves.{other_place, same_place}
 
 -- ---- which places are engaged
 
@@ -186,7 +185,7 @@ module _ {V : Type 0} where
     unfolding stepped begin_turn
     begin_runs =
         by_entered 1 places n p 0 (λ o. RunsIn (happens (Call.Begin p) (λ _. did_begin p) (came o).answer ∷ es) (came o).places) (λ fault _. r)
-        (λ en. runs_stored es places p fresh (did_begin p) en.place en.many r (same_place p true (running p es)) (λ q apart. other_place p q true (running q es) apart))
+        (λ en. runs_stored es places p fresh (did_begin p) en.place en.many r (grind (arith, nat_tests)) (λ q apart. grind (arith, nat_tests)))
       where
         fresh : Place
         fresh = record { state = 1; ts = 0; used = 0; cursor = 0 }

@@ -21,7 +21,7 @@ use Rattle.serial.proofs.Run.{Sees, among_noted, never_written, sees_skip, open_
 use Rattle.serial.proofs.Seats.{length_put_entry, place_at, place_range, sheet_other, sheet_push, sheet_set}
 use Rattle.serial.proofs.Keys.{found, found_pushed, found_set, found_unpushed, keyed, keyed_push, keyed_set, sought_found, sought_none}
 use Rattle.serial.proofs.Invariant.{Alike, Busy, HoldOk, Inv, KeyOk, LeaseOk, Seat, Seated, Stake, ahead, by_place, seat_of, stake_alike, standing, undecided, write_of, won_open, its_apart, met, wrote, KeyIn, StakeIn, all_moved, Moves, bound}
-use Rattle.serial.proofs.Moves.{Kept, entry_kept, inv_moves, inv_refused, moved, moved_state, other_place, same_place, seat_in, stakes_but}
+use Rattle.serial.proofs.Moves.{Kept, entry_kept, inv_moves, inv_refused, moved, moved_state, seat_in, stakes_but}
 use Rattle.serial.proofs.Turns.{inv_lost}
 use Rattle.serial.proofs.Changes.{free_won, held_one, holds_none, inv_changes, with_row}
 use Rattle.serial.proofs.ReadSteps.{is_busy, known_keys, new_keys, no_win, none_handled, not_decided, same_state}
@@ -47,10 +47,10 @@ module _ {V : Type 0} where
   -- ---- writes of one key, for another
 
   open_other : (j k : ℕ) (v : V) (l : Live V) → l.handled ≡ 0 → (j ≡ k → ⊥) → pending_write j (doing (writes k v) l) ≡ pending_write j l
-  open_other j k v l none apart = open_is_last j (doing (writes k v) l) none ∙ other_place k j (Some v) (last_write j l.ops) apart ∙ sym (open_is_last j l none)
+  open_other j k v l none apart = grind (arith, nat_tests, open_is_last j (doing (writes k v) l) none, open_is_last j l none)
 
   open_here : (k : ℕ) (v : V) (l : Live V) → l.handled ≡ 0 → pending_write k (doing (writes k v) l) ≡ Some v
-  open_here k v l none = open_is_last k (doing (writes k v) l) none ∙ same_place k (Some v) (last_write k l.ops)
+  open_here k v l none = grind (arith, nat_tests, open_is_last k (doing (writes k v) l) none)
 
   -- ---- an open place
 
@@ -78,8 +78,8 @@ module _ {V : Type 0} where
     writes_after : (k : ℕ) (v : V) (sh : List (Entry V)) (e : Entry V) → write_of e ≡ Some v → found k sh ≡ Some e → ((j : ℕ) → (j ≡ k → ⊥) → found j sh ≡ found j now_seat.sheet) → (j : ℕ) (f : Entry V) → found j sh ≡ Some f → last_write j (writes k v ∷ (live p es).ops) ≡ write_of f
     writes_after k v sh e is-v here' others j f is =
         by_place (λ m. found m sh ≡ Some f → last_write m (writes k v ∷ (live p es).ops) ≡ write_of f) k j
-        (λ is. let same : e ≡ f = cc in same_place k (Some v) (last_write k (live p es).ops) ∙ sym is-v ∙ ap write_of same)
-        (λ apart is. other_place k j (Some v) (last_write j (live p es).ops) apart ∙ busy.writes j f (sym (others j apart) ∙ is))
+        (λ is. let same : e ≡ f = cc in grind (arith, nat_tests, ap write_of same))
+        (λ apart is. grind (arith, nat_tests, busy.writes j f (sym (others j apart) ∙ is)))
         is
 
     -- ---- the first write of a key: the row is held
@@ -158,7 +158,7 @@ module _ {V : Type 0} where
         event = did_write p k v (max here.ts (row.rts + 1))
 
         moves : Moves (seat_of st es) (seat_of after (event ∷ es)) p new_seat
-        moves = moved st es (event ∷ es) (with_row st.tables.home k held_row) st.counter p place' entries' writer at i.many (λ q n is' apart few. sheet_other p q at' n st.tables.entries entry at is' apart t.room few) (same_place p writer (live p es)) (λ q apart. other_place p q (doing (writes k v) (live q es)) (live q es) apart)
+        moves = moved st es (event ∷ es) (with_row st.tables.home k held_row) st.counter p place' entries' writer at i.many (λ q n is' apart few. sheet_other p q at' n st.tables.entries entry at is' apart t.room few) (grind (arith, nat_tests)) (λ q apart. grind (arith, nat_tests))
 
         key_held : (won : Option (V × ℕ)) → KeyIn x es st k row won → KeyOk k (x k) held_row (serial_order es) (seat_of after (event ∷ es)) None
         key_held won ok =
@@ -338,7 +338,7 @@ module _ {V : Type 0} where
             (inv_moves x es st (did_write p k v here.ts) p here again_entries again i
             (record { order = refl; grants = ap (λ (o : Option V). one_if (is_none o) + Rattle.serial.specs.Transactions.granted es) last_known ∙ (omega arith); put = refl; freed = refl })
             at (length_put_entry st.tables.entries p n rewritten)
-            (moved st es (did_write p k v here.ts ∷ es) st.tables.home st.counter p here again_entries again at i.many (λ q m is' apart few. sheet_other p q n m st.tables.entries rewritten at is' apart (room_known rewritten at_key.1) few) (same_place p again (live p es)) (λ q apart. other_place p q (doing (writes k v) (live q es)) (live q es) apart))
+            (moved st es (did_write p k v here.ts ∷ es) st.tables.home st.counter p here again_entries again at i.many (λ q m is' apart few. sheet_other p q n m st.tables.entries rewritten at is' apart (room_known rewritten at_key.1) few) (grind (arith, nat_tests)) (λ q apart. grind (arith, nat_tests)))
             (record {
               seated = record { free = λ no'. grind (arith, nat_tests); busy = λ _. busy_again };
               stakes = stakes_but x es st at k (λ row won _ ok. stake_again row won (ok.stakes p at)) alike_again;
