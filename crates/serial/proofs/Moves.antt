@@ -59,7 +59,9 @@ module _ {V : Type 0} where
   seat_in p pl entries l = record { place = pl; sheet = sheet p (used_of pl) entries; live = l }
 
   module _ (st : Store V) (es new : List (Event V)) (home : Meaning V) (counter p : ℕ) (pl : Place) (entries : List (Entry V)) (l : Live V) where
-    pub moved : is_place p ≡ true → 64 ≤ length st.tables.places → OnlyAt p st.tables.entries entries → live p new ≡ l → ((q : ℕ) → (q ≡ p → ⊥) → live q new ≡ live q es) → Moves (seat_of st es) (seat_of (moved_state st home counter p pl entries) new) p (seat_in p pl entries l)
+    pub moved : is_place p ≡ true → 64 ≤ length st.tables.places → OnlyAt p st.tables.entries entries
+        → live p new ≡ l → ((q : ℕ) → (q ≡ p → ⊥) → live q new ≡ live q es)
+        → Moves (seat_of st es) (seat_of (moved_state st home counter p pl entries) new) p (seat_in p pl entries l)
     moved at many only here others =
         record {
           here =
@@ -91,25 +93,31 @@ module _ {V : Type 0} where
     pub freed : frees (e ∷ es) ≡ frees es
 
   module _ (x : ℕ → Option V) (es : List (Event V)) (st : Store V) (e : Event V) (p : ℕ) (pl : Place) (entries : List (Entry V)) (l : Live V) where
-    pub inv_moves : Inv x es st → Plain es e → is_place p ≡ true → length entries ≡ length st.tables.entries → Moves (seat_of st es) (seat_of (moved_state st st.tables.home st.counter p pl entries) (e ∷ es)) p (seat_in p pl entries l) → MovedOk x es st p (seat_in p pl entries l) → Inv x (e ∷ es) (moved_state st st.tables.home st.counter p pl entries)
-    inv_moves i plain at long m ok =
+    pub inv_moves : Inv x es st → Plain es e → is_place p ≡ true → length entries ≡ length st.tables.entries → OnlyAt p st.tables.entries entries
+        → live p (e ∷ es) ≡ l → ((q : ℕ) → (q ≡ p → ⊥) → live q (e ∷ es) ≡ live q es)
+        → MovedOk x es st p (seat_in p pl entries l) → Inv x (e ∷ es) (moved_state st st.tables.home st.counter p pl entries)
+    inv_moves i plain at long only here others ok =
         record {
-          many = (let h = i.many in let g = length_put_place st.tables.places p pl in omega arith);
-          long = (let h = i.long in omega arith);
+          many = omega (arith, length_put_place st.tables.places p pl);
+          long = omega arith;
           seated = all_moved m (λ q. Seated) ok.seated (λ q at _. i.seated q at);
-          keys = λ k row is. ((i.keys k row is).0, subst (λ us. KeyOk k (x k) row us (seat_of next (e ∷ es)) (i.keys k row is).0) (sym plain.order) (key_moves m (ok.stakes k row (i.keys k row is).0 is (i.keys k row is).1) (ok.wins k) (i.keys k row is).1));
-          voids = λ k is. subst (λ us. VoidOk k (x k) us (seat_of next (e ∷ es))) (sym plain.order) (void_moves m (ok.fresh k is ((i.voids k is).fresh p at)) (i.voids k is));
+          keys = λ k row is.
+              let old = i.keys k row is in
+              (old.0, subst (λ us. KeyOk k (x k) row us (seat_of next (e ∷ es)) old.0) (sym plain.order) (key_moves m (ok.stakes k row old.0 is old.1) (ok.wins k) old.1));
+          voids = λ k is.
+              let old = i.voids k is in
+              subst (λ us. VoidOk k (x k) us (seat_of next (e ∷ es))) (sym plain.order) (void_moves m (ok.fresh k is (old.fresh p at)) old);
           sorted = subst Sorted (sym plain.order) i.sorted;
           numbered = subst (All (λ (t : Transaction V). t.number ≤ st.counter)) (sym plain.order) i.numbered;
           limit = i.limit;
-          holds = (omega arith);
+          holds = omega arith;
         }
       where
         next : Store V
         next = moved_state st st.tables.home st.counter p pl entries
 
-        n : Seat V
-        n = seat_in p pl entries l
+        m : Moves (seat_of st es) (seat_of next (e ∷ es)) p (seat_in p pl entries l)
+        m = moved st es (e ∷ es) st.tables.home st.counter p pl entries l at i.many only here others
 
   -- What a place has at stake, where every key but one is alike.
   pub stakes_but : (x : ℕ → Option V) (es : List (Event V)) (st : Store V) {p : ℕ} {n : Seat V} → is_place p ≡ true
@@ -121,7 +129,8 @@ module _ {V : Type 0} where
       (here row won) (λ apart _ ok. stake_alike (alike j apart) (ok.stakes p at))
 
   -- The same where every key is alike.
-  pub alike_ok : {x : ℕ → Option V} {es : List (Event V)} {st : Store V} {p : ℕ} {n : Seat V} → is_place p ≡ true → ((k : ℕ) → Alike k (seat_of st es p) n) → ((k : ℕ) → among k (keys_of n.live.ops) ≡ among k (keys_of (live p es).ops)) → Seated n → MovedOk x es st p n
+  pub alike_ok : {x : ℕ → Option V} {es : List (Event V)} {st : Store V} {p : ℕ} {n : Seat V} → is_place p ≡ true → ((k : ℕ) → Alike k (seat_of st es p) n)
+      → ((k : ℕ) → among k (keys_of n.live.ops) ≡ among k (keys_of (live p es).ops)) → Seated n → MovedOk x es st p n
   alike_ok {p = p} at alike keys seated =
       record {
         seated = seated;

@@ -109,7 +109,7 @@ module _ {V : Type 0} where
       read_known =
           subst (λ (s : Store V). Inv x (did_read p k e.value ∷ es) s) (same_state st p)
           (inv_moves x es st (did_read p k e.value) p here st.tables.entries after i (record { order = refl; grants = refl; put = refl; freed = refl }) at refl
-          (moved st es (did_read p k e.value ∷ es) st.tables.home st.counter p here st.tables.entries after at i.many (same_entries p st.tables.entries) (grind (arith, nat_tests)) (λ q apart. grind (arith, nat_tests)))
+          (same_entries p st.tables.entries) (grind (arith, nat_tests)) (λ q apart. grind (arith, nat_tests))
           (record {
             seated = record { free = λ no'. grind (arith, nat_tests); busy = λ _. busy_known };
             stakes = stakes_but x es st at k (λ row won _ ok. stake_known row won (ok.stakes p at)) alike_known;
@@ -204,15 +204,18 @@ module _ {V : Type 0} where
 
       pub read_new : slice_get st.tables.home.rows k ≡ Some row → Inv x (did_read p k row.value ∷ es) (moved_state st st.tables.home st.counter p place' entries')
       read_new is =
-          inv_moves x es st (did_read p k row.value) p place' entries' reader i (record { order = refl; grants = refl; put = refl; freed = refl }) at (length_put_entry st.tables.entries p (used_of here) entry)
-          (moved st es (did_read p k row.value ∷ es) st.tables.home st.counter p place' entries' reader at i.many (λ q n is' apart few. sheet_other p q (used_of here) n st.tables.entries entry at is' apart room few) (grind (arith, nat_tests)) (λ q apart. grind (arith, nat_tests)))
+          inv_moves x es st (did_read p k row.value) p place' entries' reader i (record { order = refl; grants = refl; put = refl; freed = refl }) at
+          (length_put_entry st.tables.entries p (used_of here) entry) (λ q n is' apart few. sheet_other p q (used_of here) n st.tables.entries entry at is' apart room few)
+          (grind (arith, nat_tests)) (λ q apart. grind (arith, nat_tests))
           (record {
             seated = record { free = λ no'. grind (arith, nat_tests); busy = λ _. busy_new };
             stakes = stakes_but x es st at k
                 (λ r won h ok. let same : row ≡ r = cc in subst (λ (o : Row V). KeyIn x es st k o won → StakeIn x es k o won p new_seat) same (stake_new won) ok)
                 alike_new;
             wins = λ j. ap (when (live p es).decided) (open_read j k row.value (live p es) none_handled);
-            fresh = λ j none was. by_place (λ m. slice_get st.tables.home.rows m ≡ None → among m (keys_of (live p es).ops) ≡ false → among m (keys_of reader.ops) ≡ false) k j (λ gone was. cc) (λ apart none was. among_noted j k (keys_of (live p es).ops) ∙ (grind (arith, nat_tests))) none was;
+            fresh = λ j none was.
+                by_place (λ m. slice_get st.tables.home.rows m ≡ None → among m (keys_of (live p es).ops) ≡ false → among m (keys_of reader.ops) ≡ false) k j
+                (λ gone was. cc) (λ apart none was. grind (arith, nat_tests, among_noted j k (keys_of (live p es).ops))) none was;
           })
 
   -- ---- the whole call

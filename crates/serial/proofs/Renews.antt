@@ -154,8 +154,7 @@ module _ {V : Type 0} where
         let l = limits frozen e is in
         inv_moves x es st (did_renew p left) p (onward here) st.tables.entries (live p es) i
         (record { order = refl; grants = refl; put = refl; freed = refl }) at refl
-        (moved st es (did_renew p left ∷ es) st.tables.home st.counter p (onward here) st.tables.entries (live p es)
-        at i.many (same_entries p st.tables.entries) refl (λ q _. refl))
+        (same_entries p st.tables.entries) refl (λ q _. refl)
         (alike_ok at
         (λ k. record { write = refl; decided = refl; undecided = λ u. u; entry = refl; later = omega arith; same = λ _. refl; sees = λ y h. h })
         (λ k. refl)

@@ -188,8 +188,7 @@ module _ {V : Type 0} where
       inv_freed is =
           inv_moves x es st (did_settle p 0 true) p (freed here) entries nothing_done i
           (record { order = refl; grants = refl; put = no_put now.decided 0 (puts es) refl; freed = no_free now.decided 0 (frees es) refl }) at refl
-          (moved st es (did_settle p 0 true ∷ es) st.tables.home st.counter p (freed here) entries nothing_done at i.many (same_entries p entries)
-          (grind (arith, nat_tests)) (λ q apart. grind (arith, nat_tests)))
+          (same_entries p entries) (grind (arith, nat_tests)) (λ q apart. grind (arith, nat_tests))
           (record {
             seated = record { free = λ _. refl; busy = λ yes'. cc };
             stakes = λ k row won is' ok. record {
@@ -249,7 +248,7 @@ module _ {V : Type 0} where
             let none = ap (λ (a : Option V). one_if (is_some a)) (next_is now e.key next_key ∙ write) in
             inv_moves x es st event p (onward here) entries then_live i
             (record { order = refl; grants = refl; put = no_put now.decided _ (puts es) none; freed = no_free now.decided _ (frees es) none }) at refl
-            (onward_moves st.tables.home)
+            (same_entries p entries) (grind (arith, nat_tests)) (λ q apart. grind (arith, nat_tests))
             (alike_ok at
             (λ k. record { write = open_read now e.key next_key write k; decided = refl; undecided = λ u. u; entry = refl; later = omega arith; same = λ _. refl; sees = λ y h. h })
             (λ k. refl)

@@ -41,7 +41,7 @@ module _ {V : Type 0} where
     turned : (e : Event V) → Plain es e → ((q : ℕ) → live q (e ∷ es) ≡ live q es) → (s : ℕ) → leb 2 s && leb s 3 ≡ true → undecided here ≡ true → Inv x (e ∷ es) (moved_state st st.tables.home st.counter p (moved_to s here) st.tables.entries)
     turned e plain same s range was =
         inv_moves x es st e p (moved_to s here) st.tables.entries (live p es) i plain at refl
-        (moved st es (e ∷ es) st.tables.home st.counter p (moved_to s here) st.tables.entries (live p es) at i.many (same_entries p st.tables.entries) (same p) (λ q _. same q))
+        (same_entries p st.tables.entries) (same p) (λ q _. same q)
         (alike_ok at
         (λ k. record { write = refl; decided = refl; undecided = λ _. was; entry = refl; later = omega arith; same = λ _. refl; sees = λ y h. h })
         (λ k. refl)
@@ -92,7 +92,7 @@ module _ {V : Type 0} where
             let was_idle : live p es ≡ nothing_done = (i.seated p at).free (grind (arith, nat_tests)) in
             let empty = sheet_none {V = V} p st.tables.entries in
             inv_moves x es st (did_begin p) p fresh st.tables.entries nothing_done i (record { order = refl; grants = refl; put = refl; freed = refl }) at refl
-            (moved st es (did_begin p ∷ es) st.tables.home st.counter p fresh st.tables.entries nothing_done at i.many (same_entries p st.tables.entries) (grind (arith, nat_tests)) (λ q apart. grind (arith, nat_tests)))
+            (same_entries p st.tables.entries) (grind (arith, nat_tests)) (λ q apart. grind (arith, nat_tests))
             (record {
               seated = record {
                 free = λ no'. cc;

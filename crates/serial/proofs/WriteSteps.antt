@@ -1,6 +1,6 @@
 -- write: of a key already written, of one that was read, and of a new one.
 use Rattle.std.proofs.Common.{◌≡◌, ℕ, ◌+◌, ◌<◌, ◌≤◌, min, max, Bool, true, false, cond, not, ◌&&◌, eqb, List, [], ◌∷◌, ◌++◌, length, set, Some, None, Ok, Option, sym, refl, ap, ◌∙◌, subst, inr, arith, length-set}
-use Rattle.std.specs.List.{slice_get}
+use Rattle.std.specs.List.{slice_get, AllByRecursion as All}
 use Rattle.std.proofs.lemmas.Bool.{cond_both}
 use Rattle.std.proofs.lemmas.Bool.Decides.{nat_tests}
 use Rattle.std.proofs.lemmas.List.{length_push}
@@ -158,7 +158,9 @@ module _ {V : Type 0} where
         event = did_write p k v (max here.ts (row.rts + 1))
 
         moves : Moves (seat_of st es) (seat_of after (event ∷ es)) p new_seat
-        moves = moved st es (event ∷ es) (with_row st.tables.home k held_row) st.counter p place' entries' writer at i.many (λ q n is' apart few. sheet_other p q at' n st.tables.entries entry at is' apart t.room few) (grind (arith, nat_tests)) (λ q apart. grind (arith, nat_tests))
+        moves =
+            moved st es (event ∷ es) (with_row st.tables.home k held_row) st.counter p place' entries' writer at i.many
+            (λ q n is' apart few. sheet_other p q at' n st.tables.entries entry at is' apart t.room few) (grind (arith, nat_tests)) (λ q apart. grind (arith, nat_tests))
 
         key_held : (won : Option (V × ℕ)) → KeyIn x es st k row won → KeyOk k (x k) held_row (serial_order es) (seat_of after (event ∷ es)) None
         key_held won ok =
@@ -166,7 +168,7 @@ module _ {V : Type 0} where
             record {
               fair = ok.fair;
               stands = λ τ from. ok.stands τ from ∙ ap (λ (w : Option (V × ℕ)). Some (standing w row τ)) none;
-              quiet = subst (λ (w : Option (V × ℕ)). Rattle.std.specs.List.AllByRecursion (λ (u : Transaction V). bound w row < u.ts → among k (keys_of u.ops) ≡ false) (serial_order es)) none ok.quiet;
+              quiet = subst (λ (w : Option (V × ℕ)). All (λ (u : Transaction V). bound w row < u.ts → among k (keys_of u.ops) ≡ false) (serial_order es)) none ok.quiet;
               sees = ok.sees;
               above = tt;
               winner = λ w is. cc;
@@ -179,7 +181,12 @@ module _ {V : Type 0} where
             inv_changes x es st event p place' entries' writer k row held_row i at
             (record {
               order = refl;
-              count = (let r = place_range p at in let one : one_if (is_none (last_write k (live p es).ops)) ≡ 1 = ap (λ (o : Option V). one_if (is_none o)) t.unwritten in let a : held_one row ≡ 0 = grind (arith, nat_tests) in let b : held_one held_row ≡ 1 = grind (arith, nat_tests) in omega arith);
+              count =
+                  (let r = place_range p at in
+                  let one = ap (λ (o : Option V). one_if (is_none o)) t.unwritten in
+                  let a : held_one row ≡ 0 = grind (arith, nat_tests) in
+                  let b : held_one held_row ≡ 1 = grind (arith, nat_tests) in
+                  omega arith);
               long = length_put_entry st.tables.entries p at' entry;
               was = is;
               moves = moves;
@@ -338,7 +345,8 @@ module _ {V : Type 0} where
             (inv_moves x es st (did_write p k v here.ts) p here again_entries again i
             (record { order = refl; grants = ap (λ (o : Option V). one_if (is_none o) + Rattle.serial.specs.Transactions.granted es) last_known ∙ (omega arith); put = refl; freed = refl })
             at (length_put_entry st.tables.entries p n rewritten)
-            (moved st es (did_write p k v here.ts ∷ es) st.tables.home st.counter p here again_entries again at i.many (λ q m is' apart few. sheet_other p q n m st.tables.entries rewritten at is' apart (room_known rewritten at_key.1) few) (grind (arith, nat_tests)) (λ q apart. grind (arith, nat_tests)))
+            (λ q m is' apart few. sheet_other p q n m st.tables.entries rewritten at is' apart (room_known rewritten at_key.1) few)
+            (grind (arith, nat_tests)) (λ q apart. grind (arith, nat_tests))
             (record {
               seated = record { free = λ no'. grind (arith, nat_tests); busy = λ _. busy_again };
               stakes = stakes_but x es st at k (λ row won _ ok. stake_again row won (ok.stakes p at)) alike_again;
