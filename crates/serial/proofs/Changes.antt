@@ -12,7 +12,7 @@ use Rattle.serial.specs.Transactions.{Live, Transaction, among, frees, granted, 
 use Rattle.serial.specs.Serial.{Sorted, held_now}
 use Rattle.serial.proofs.Run.{absent}
 use Rattle.serial.proofs.Seats.{length_put_place, place_range}
-use Rattle.serial.proofs.Invariant.{Alike, Inv, KeyOk, Moves, Seat, Seated, VoidOk, by_place, key_moves, seat_of, stake_alike, void_moves, won_alike, won_open, all_moved, KeyIn, StakeIn}
+use Rattle.serial.proofs.Invariant.{Alike, Inv, KeyOk, Moves, Seat, Seated, VoidOk, by_place, key_moves, seat_of, stake_alike, void_moves, won_alike, won_open, all_moved, KeyIn}
 use Rattle.serial.proofs.Moves.{moved_state, seat_in}
 
 -- One where the row is held.

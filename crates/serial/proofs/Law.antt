@@ -183,7 +183,7 @@ freed_place places p many at =
 module _ {V : Type 0} where
   free_first : (key : ℕ) (row : Row V) (rows : List (Row V)) → held_from key (row ∷ rows) ≡ None →
       (row.holder ≡ 0) × (held_from (key + 1) rows ≡ None)
-  free_first key row rows is = (grind (arith, nat_tests), grind (arith, nat_tests))
+  free_first key row rows is = grind (arith, nat_tests)
 
   free_row : (key : ℕ) (rows : List (Row V)) → held_from key rows ≡ None → (k : ℕ) (row : Row V) → slice_get rows k ≡ Some row → row.holder ≡ 0
   free_row key [] none k row is = cc

@@ -1,7 +1,6 @@
 -- Steps that leave every row and the order alone: one seat moves.
-use Rattle.std.proofs.Common.{◌≡◌, ℕ, ◌≤◌, true, false, cond, eqb, List, ◌∷◌, length, Some, None, Ok, Option, sym, ap, ◌∙◌, subst, arith}
+use Rattle.std.proofs.Common.{◌≡◌, ℕ, ◌≤◌, true, false, List, ◌∷◌, length, Some, None, Ok, Option, sym, ap, ◌∙◌, subst, arith}
 use Rattle.std.specs.List.{slice_get, AllByRecursion as All}
-use Rattle.std.proofs.lemmas.Bool.Decides.{nat_tests}
 use Rattle.home.specs.declared.fault.Fault.{Fault}
 use Rattle.home.specs.declared.row.Row.{Row}
 use Rattle.home.specs.Meaning.{Meaning, is_place}
@@ -14,7 +13,7 @@ use Rattle.serial.specs.Events.{Event, Step, Store, by_did, by_turn, refused}
 use Rattle.serial.specs.Transactions.{Live, Transaction, among, frees, granted, keys_of, live, puts, serial_order, unsettled_write}
 use Rattle.serial.specs.Serial.{Sorted}
 use Rattle.serial.proofs.Seats.{Entered, by_entered, length_put_place, place_at, place_other, place_same}
-use Rattle.serial.proofs.Invariant.{Alike, Inv, KeyOk, Moves, Seat, Seated, Stake, VoidOk, key_moves, seat_of, stake_alike, void_moves, won_alike, all_moved, KeyIn, StakeIn, by_place, Stake}
+use Rattle.serial.proofs.Invariant.{Alike, Inv, KeyOk, Moves, Seat, Seated, VoidOk, key_moves, seat_of, stake_alike, void_moves, won_alike, all_moved, KeyIn, StakeIn, by_place}
 
 module _ {V : Type 0} where
   -- ---- a refused call that alters nothing

@@ -19,7 +19,7 @@ use Rattle.serial.proofs.Run.{Sees, along, along_unwritten, along_written, among
 use Rattle.serial.proofs.Seats.{blank, length_put_entry, place_at, sheet_other, sheet_push}
 use Rattle.serial.proofs.Keys.{found, found_pushed, found_unpushed, keyed, keyed_push, sought_found, sought_none}
 use Rattle.serial.proofs.Invariant.{Alike, Busy, Inv, KeyOk, LeaseOk, Seat, Seated, Stake, by_place, engaged, seat_of, stake_alike, undecided, won_alike, write_of, met, wrote, KeyIn, StakeIn}
-use Rattle.serial.proofs.Moves.{Kept, entry_kept, inv_moves, inv_refused, moved, moved_state, seat_in, stakes_but}
+use Rattle.serial.proofs.Moves.{Kept, entry_kept, inv_moves, inv_refused, moved_state, seat_in, stakes_but}
 use Rattle.serial.proofs.Turns.{same_entries}
 
 pub known_keys : (k : ℕ) (ks : List ℕ) → among k ks ≡ true → noted k ks ≡ ks

@@ -23,7 +23,7 @@ abbrev pub place_at : List Place → ℕ → Place
 place_at places p = get_or places (p - 1) blank
 
 pub place_range : (p : ℕ) → is_place p ≡ true → (1 ≤ p) × (p ≤ 64)
-place_range p is = (grind (arith, nat_tests), grind (arith, nat_tests))
+place_range p is = grind (arith, nat_tests)
 
 -- ---- what the first tests have found
 

@@ -1,5 +1,5 @@
 -- settle: the next key of a place that has won or lost is handled, or the place becomes free.
-use Rattle.std.proofs.Common.{◌≡◌, ℕ, suc, ◌+◌, ◌<◌, ◌≤◌, Bool, true, false, cond, ◌&&◌, eqb, leb, List, ◌∷◌, Some, None, Option, sym, refl, ap, ◌∙◌, subst, inl, arith}
+use Rattle.std.proofs.Common.{◌≡◌, ℕ, ◌<◌, ◌≤◌, Bool, true, false, cond, ◌&&◌, eqb, leb, List, ◌∷◌, Some, None, Option, sym, refl, ap, ◌∙◌, subst, inl, arith}
 use Rattle.std.specs.List.{slice_get, AllByRecursion as All}
 use Rattle.std.proofs.lemmas.Option.{slice_get_within}
 use Rattle.std.proofs.lemmas.Bool.Decides.{nat_tests}
@@ -14,28 +14,14 @@ use Rattle.coordinator.specs.declared.tables.Entry.{Entry}
 use Rattle.coordinator.specs.Tables.{at_cursor, cursor_of, sheet, used_of}
 use Rattle.coordinator.specs.Calls.{Did, ending, freed, left_after, moving, onward, settle_call, settling, settling_row}
 use Rattle.serial.specs.Events.{Event, Store, by_did, did_settle, stepped}
-use Rattle.serial.specs.Transactions.{Live, Transaction, among, frees, nothing_done, is_some, keys_of, last_write, live, next_write, one_if, pending_write, puts, serial_order, settling_now, when, unsettled_write, write_at}
+use Rattle.serial.specs.Transactions.{Live, Transaction, among, nothing_done, is_some, keys_of, last_write, live, next_write, one_if, pending_write, serial_order, settling_now, when, unsettled_write, write_at}
 use Rattle.serial.proofs.Run.{value_upto}
 use Rattle.serial.proofs.Seats.{place_at, place_range}
 use Rattle.serial.proofs.Keys.{among_drop, among_here, apart_past, drop_none, keys_apart, nth_found, nth_keyed, nth_keyed_none}
-use Rattle.serial.proofs.Invariant.{Busy, Inv, KeyOk, Moves, Seat, Seated, Stake, bound, by_place, seat_of, standing, undecided, won_open, all_moved, its_apart, wrote, KeyIn, StakeIn}
+use Rattle.serial.proofs.Invariant.{Busy, Inv, KeyOk, Moves, Seat, Seated, Stake, bound, by_place, seat_of, standing, undecided, won_open, all_moved, its_apart, wrote, KeyIn}
 use Rattle.serial.proofs.Moves.{Kept, alike_ok, entry_kept, inv_moves, inv_refused, moved, moved_state, seat_in}
-use Rattle.serial.proofs.Changes.{held_one, holds_none, inv_changes, loser_won, with_row}
+use Rattle.serial.proofs.Changes.{holds_none, inv_changes, loser_won, with_row}
 use Rattle.serial.proofs.Turns.{same_entries}
-
--- What a settle that ends no hold adds to the puts and to the frees.
-no_put : (b : Bool) (n m : ℕ) → n ≡ 0 → cond b n 0 + m ≡ m
-no_put true n m is = omega arith
-no_put false n m is = omega arith
-
-no_free : (b : Bool) (n m : ℕ) → n ≡ 0 → cond b 0 n + m ≡ m
-no_free true n m is = omega arith
-no_free false n m is = omega arith
-
--- And what one that ends a hold adds to both.
-one_ended : (b : Bool) (n p f : ℕ) → n ≡ 1 → (cond b n 0 + p) + (cond b 0 n + f) ≡ suc (p + f)
-one_ended true n p f is = omega arith
-one_ended false n p f is = omega arith
 
 module _ {V : Type 0} where
   -- ---- the rows that put and free leave
@@ -43,11 +29,11 @@ module _ {V : Type 0} where
   -- A put is granted to the holder, past the lease.
   put_granted : (last p : ℕ) (v : V) (t : ℕ) (row new : Row V) → put_row last p v t row ≡ grants new
       → (row.holder ≡ p) × (row.rts < t) × (new ≡ record { value = v; wts = t; rts = t; holder = 0 })
-  put_granted last p v t row new is = (grind (arith, nat_tests), grind (arith, nat_tests), grind (arith, nat_tests))
+  put_granted last p v t row new is = grind (arith, nat_tests)
 
   free_granted : (p : ℕ) (row new : Row V) → free_row p row ≡ grants new
       → (row.holder ≡ p) × (new ≡ record { value = row.value; wts = row.wts; rts = row.rts; holder = 0 })
-  free_granted p row new is = (grind (arith, nat_tests), grind (arith, nat_tests))
+  free_granted p row new is = grind (arith, nat_tests)
 
   -- ---- a transaction whose next key is handled
 
@@ -187,7 +173,7 @@ module _ {V : Type 0} where
       inv_freed : at_cursor entries p here ≡ None → Inv x (did_settle p 0 true ∷ es) (moved_state st st.tables.home st.counter p (freed here) entries)
       inv_freed is =
           inv_moves x es st (did_settle p 0 true) p (freed here) entries nothing_done i
-          (record { order = refl; grants = refl; put = no_put now.decided 0 (puts es) refl; freed = no_free now.decided 0 (frees es) refl }) at refl
+          (record { order = refl; grants = refl; put = grind (arith, nat_tests); freed = grind (arith, nat_tests) }) at refl
           (same_entries p entries) (grind (arith, nat_tests)) (λ q apart. grind (arith, nat_tests))
           (record {
             seated = record { free = λ _. refl; busy = λ yes'. cc };
@@ -247,7 +233,7 @@ module _ {V : Type 0} where
             let write : last_write e.key now.ops ≡ None = its_write unwritten in
             let none = ap (λ (a : Option V). one_if (is_some a)) (next_is now e.key next_key ∙ write) in
             inv_moves x es st event p (onward here) entries then_live i
-            (record { order = refl; grants = refl; put = no_put now.decided _ (puts es) none; freed = no_free now.decided _ (frees es) none }) at refl
+            (record { order = refl; grants = refl; put = grind (arith, nat_tests); freed = grind (arith, nat_tests) }) at refl
             (same_entries p entries) (grind (arith, nat_tests)) (λ q apart. grind (arith, nat_tests))
             (alike_ok at
             (λ k. record { write = open_read now e.key next_key write k; decided = refl; undecided = λ u. u; entry = refl; later = omega arith; same = λ _. refl; sees = λ y h. h })
@@ -270,10 +256,8 @@ module _ {V : Type 0} where
                   order = refl;
                   count =
                       (let range = place_range p at in
-                      let held : held_one row ≡ 1 = grind (arith, nat_tests) in
-                      let let_go : held_one new ≡ 0 = grind (arith, nat_tests) in
-                      let ended = one_ended now.decided _ (puts es) (frees es) (ap (λ (a : Option V). one_if (is_some a)) (next_is now e.key next_key ∙ its_write written)) in
-                      omega arith);
+                      let ended = ap (λ (a : Option V). one_if (is_some a)) (next_is now e.key next_key ∙ its_write written) in
+                      grind (arith, nat_tests));
                   long = refl;
                   was = was;
                   moves = onward_moves (with_row st.tables.home e.key new);

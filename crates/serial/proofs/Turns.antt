@@ -13,7 +13,7 @@ use Rattle.serial.specs.Transactions.{Live, nothing_done, is_some, live, pending
 use Rattle.serial.proofs.Seats.{place_at, sheet_none}
 use Rattle.serial.proofs.Keys.{found, keyed}
 use Rattle.serial.proofs.Invariant.{Busy, Inv, Seat, seat_of, undecided}
-use Rattle.serial.proofs.Moves.{OnlyAt, Plain, alike_ok, inv_moves, inv_refused, moved, moved_state, seat_in, turn_kept}
+use Rattle.serial.proofs.Moves.{OnlyAt, Plain, alike_ok, inv_moves, inv_refused, moved_state, seat_in, turn_kept}
 
 module _ {V : Type 0} where
   pub same_entries : (p : ℕ) (entries : List (Entry V)) → OnlyAt p entries entries

@@ -20,10 +20,10 @@ use Rattle.serial.specs.Transactions.{Live, Op, Transaction, among, doing, is_no
 use Rattle.serial.proofs.Run.{Sees, among_noted, never_written, sees_skip, open_is_last}
 use Rattle.serial.proofs.Seats.{length_put_entry, place_at, place_range, sheet_other, sheet_push, sheet_set}
 use Rattle.serial.proofs.Keys.{found, found_pushed, found_set, found_unpushed, keyed, keyed_push, keyed_set, sought_found, sought_none}
-use Rattle.serial.proofs.Invariant.{Alike, Busy, HoldOk, Inv, KeyOk, LeaseOk, Seat, Seated, Stake, ahead, by_place, seat_of, stake_alike, standing, undecided, write_of, won_open, its_apart, met, wrote, KeyIn, StakeIn, all_moved, Moves, bound}
+use Rattle.serial.proofs.Invariant.{Alike, Busy, Inv, KeyOk, Seat, by_place, seat_of, standing, write_of, won_open, its_apart, met, wrote, KeyIn, StakeIn, all_moved, Moves, bound}
 use Rattle.serial.proofs.Moves.{Kept, entry_kept, inv_moves, inv_refused, moved, moved_state, seat_in, stakes_but}
 use Rattle.serial.proofs.Turns.{inv_lost}
-use Rattle.serial.proofs.Changes.{free_won, held_one, holds_none, inv_changes, with_row}
+use Rattle.serial.proofs.Changes.{free_won, holds_none, inv_changes, with_row}
 use Rattle.serial.proofs.ReadSteps.{is_busy, known_keys, new_keys, no_win, none_handled, not_decided, same_state}
 
 -- A key is among the others as before, once one more is noted.
@@ -184,9 +184,7 @@ module _ {V : Type 0} where
               count =
                   (let r = place_range p at in
                   let one = ap (λ (o : Option V). one_if (is_none o)) t.unwritten in
-                  let a : held_one row ≡ 0 = grind (arith, nat_tests) in
-                  let b : held_one held_row ≡ 1 = grind (arith, nat_tests) in
-                  omega arith);
+                  grind (arith, nat_tests));
               long = length_put_entry st.tables.entries p at' entry;
               was = is;
               moves = moves;
