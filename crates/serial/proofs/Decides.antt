@@ -2,20 +2,19 @@
 --   decided_seat s, commit_of number s    the seat that a decide leaves, and the transaction that it adds
 --   key_decides                           what then holds of a key: it was not touched, read only, or written
 --   keeps_decide                          the invariant after any decide
-use Rattle.std.proofs.Common.{◌≡◌, ℕ, zero, suc, ◌+◌, ◌<◌, ◌≤◌, Bool, true, false, cond, eqb, ltb, leb, List, [], ◌∷◌, length, Some, None, Ok, Err, Option, sym, refl, ap, ◌∙◌, subst, arith}
+use Rattle.std.proofs.Common.{◌≡◌, ℕ, zero, suc, ◌+◌, ◌<◌, ◌≤◌, Bool, true, false, cond, eqb, ltb, leb, List, [], ◌∷◌, length, Some, None, Option, sym, refl, ap, ◌∙◌, subst, arith}
 use Rattle.std.specs.List.{slice_get}
 use Rattle.std.proofs.ByRecursion.{All-weaker}
+use Rattle.std.proofs.lemmas.Bool.{cond_both}
 use Rattle.std.proofs.lemmas.Bool.Decides.{nat_tests}
-use Rattle.home.specs.declared.fault.Fault.{Fault}
-use Rattle.home.specs.declared.fault.Refusal.TheVariants.{DayFull, Unchecked}
 use Rattle.home.specs.declared.row.Row.{Row}
 use Rattle.home.specs.Meaning.{is_place}
 use Rattle.coordinator.specs.declared.call.Call.{Call}
 use Rattle.coordinator.specs.declared.tables.Place.{Place}
 use Rattle.coordinator.specs.declared.tables.Entry.{Entry}
-use Rattle.coordinator.specs.Tables.{count_of, cursor_of, fault_of, put_place, used_of}
+use Rattle.coordinator.specs.Tables.{count_of, cursor_of, used_of}
 use Rattle.coordinator.specs.Calls.{Decision, decide_turn, deciding_at, moved_to}
-use Rattle.serial.specs.Events.{Event, Store, Step, by_decision, did_decide, stepped}
+use Rattle.serial.specs.Events.{Event, Store, by_decision, did_decide, stepped}
 use Rattle.serial.specs.Transactions.{Transaction, among, deciding_now, insert, is_some, keys_of, last_write, live, pending_write, serial_order, unsettled_write}
 use Rattle.serial.proofs.Seats.{by_entered, length_put_place, place_at}
 use Rattle.serial.proofs.Keys.{found}
@@ -294,28 +293,9 @@ module _ {V : Type 0} where
     keeps_decide =
         by_entered 6 st.tables.places (length st.tables.entries) p 0 (λ r. Kept (deciding_at st.tables.places st.counter p r))
         (λ fault _. inv_refused x es st (Call.Decide p) fault i)
-        (λ en. by_tests en.place (grind (arith, nat_tests)) (ltb (cursor_of here) (used_of here)) (eqb (count_of st.counter) 999999) refl refl)
+        (λ en. cond_both (ltb (cursor_of here) (used_of here)) _ _ Kept (λ left. inv_refused x es st (Call.Decide p) _ i)
+        (λ none. cond_both (eqb (count_of st.counter) 999999) _ _ Kept (λ full. inv_refused x es st (Call.Decide p) _ i)
+        (decided en.place (grind (arith, nat_tests)) (grind (arith, nat_tests)))))
       where
-        step : Decision (ℕ × ℕ) → Step V
-        step d = by_decision st (Call.Decide p) (λ commit. did_decide p commit.0 commit.1) d
-
         Kept : Decision (ℕ × ℕ) → Type 0
-        Kept d = Inv x ((step d).event ∷ es) (step d).store
-
-        turned_down : Fault → Decision (ℕ × ℕ)
-        turned_down fault = record { answer = Err fault; places = st.tables.places; counter = st.counter }
-
-        taken : Decision (ℕ × ℕ)
-        taken =
-            record {
-              answer = Ok (here.ts, number);
-              places = put_place st.tables.places p (moved_to 4 here);
-              counter = number;
-            }
-
-        by_tests : is_place p ≡ true → here.state ≡ 2
-            → (c d : Bool) → ltb (cursor_of here) (used_of here) ≡ c → eqb (count_of st.counter) 999999 ≡ d
-            → Kept (cond c (turned_down (fault_of Unchecked p 0 0)) (cond d (turned_down (fault_of DayFull p 0 0)) taken))
-        by_tests at frozen true d left full = inv_refused x es st (Call.Decide p) (fault_of Unchecked p 0 0) i
-        by_tests at frozen false true left full = inv_refused x es st (Call.Decide p) (fault_of DayFull p 0 0) i
-        by_tests at frozen false false left full = decided at frozen (grind (arith, nat_tests)) full
+        Kept d = Inv x ((by_decision st (Call.Decide p) (λ commit. did_decide p commit.0 commit.1) d).event ∷ es) (by_decision st (Call.Decide p) (λ commit. did_decide p commit.0 commit.1) d).store

@@ -1,11 +1,11 @@
 -- The law of a day from its invariant, and the invariant from the opening on.
-use Rattle.std.proofs.Common.{◌≡◌, ℕ, zero, suc, ◌+◌, ◌-◌, ◌≤◌, Bool, true, false, cond, List, [], ◌∷◌, ◌++◌, map, length, take, drop, IfOk, Some, None, Ok, Err, Option, Result, sym, refl, ap, ◌∙◌, subst, inl, arith, length-append, length-drop, length-take-le}
+use Rattle.std.proofs.Common.{◌≡◌, ℕ, zero, suc, ◌+◌, ◌-◌, ◌≤◌, true, false, List, [], ◌∷◌, ◌++◌, map, length, take, drop, IfOk, Some, None, Ok, Err, Option, Result, sym, refl, ap, ◌∙◌, inl, arith, length-append, length-drop, length-take-le}
 use lib.ListN.{length-map, get_or-append, get_or-map}
 use Rattle.std.specs.List.{slice_get, AllByRecursion as All}
 use Rattle.std.specs.Option.{option_map}
+use Rattle.std.proofs.lemmas.Bool.{cond_both}
 use Rattle.std.proofs.lemmas.Option.{slice_get-map}
 use Rattle.std.proofs.lemmas.Bool.Decides.{nat_tests}
-use Rattle.home.specs.declared.fault.Refusal.TheVariants.{ShortTable}
 use Rattle.home.specs.declared.fault.Fault.{Fault}
 use Rattle.home.specs.declared.row.Row.{Row}
 use Rattle.home.specs.Meaning.{Meaning, Sound, is_place}
@@ -13,7 +13,7 @@ use Rattle.home.proofs.Calls.{fair_at}
 use Rattle.coordinator.specs.declared.call.Call.{Call}
 use Rattle.coordinator.specs.declared.tables.Place.{Place}
 use Rattle.coordinator.specs.declared.tables.Entry.{Entry}
-use Rattle.coordinator.specs.Tables.{fault_of, is_short, tables}
+use Rattle.coordinator.specs.Tables.{is_short, tables}
 use Rattle.coordinator.specs.Calls.{Decision, freed}
 use Rattle.coordinator.specs.Calls.{held_from, opening, opening_clean}
 use Rattle.serial.specs.Events.{Event, history_of, Store, store}
@@ -257,26 +257,14 @@ module _ {V : Type 0} where
     pub opened_good : (counter : ℕ) → Sound m → (opening m places (length entries) counter).answer ≡ Ok tt →
         Good (λ k. slice_get (values_of m) k) [] (opened m places entries counter)
     unfolding opening
-    opened_good counter sound ok = go (is_short (length places) (length entries)) refl ok
+    opened_good counter sound = cond_both (is_short (length places) (length entries)) _ _ Opens (λ short no'. cc) (λ enough. by_held enough (held_from 0 m.rows) refl)
       where
-        short : Decision (Unit {0})
-        short = record { answer = Err (fault_of ShortTable 0 0 0); places = places; counter = counter }
+        Opens : Decision (Unit {0}) → Type 0
+        Opens d = d.answer ≡ Ok tt → Good (λ k. slice_get (values_of m) k) [] (record { tables = tables m d.places entries; counter = d.counter })
 
-        state : Decision (Unit {0}) → Store V
-        state d = record { tables = tables m d.places entries; counter = d.counter }
-
-        by_held : (o : Option (ℕ × ℕ)) → held_from 0 m.rows ≡ o → is_short (length places) (length entries) ≡ false →
-            (opening_clean places counter o).answer ≡ Ok tt → Good (λ k. slice_get (values_of m) k) [] (state (opening_clean places counter o))
-        by_held None none enough is = clean_good sound (grind (arith, nat_tests)) (grind (arith, nat_tests)) none
-        by_held (Some held) none enough is = cc
-
-        rest : Decision (Unit {0})
-        rest = opening_clean places counter (held_from 0 m.rows)
-
-        go : (b : Bool) → is_short (length places) (length entries) ≡ b → (cond b short rest).answer ≡ Ok tt →
-            Good (λ k. slice_get (values_of m) k) [] (state (cond b short rest))
-        go true is no' = cc
-        go false is yes' = by_held (held_from 0 m.rows) refl is yes'
+        by_held : is_short (length places) (length entries) ≡ false → (o : Option (ℕ × ℕ)) → held_from 0 m.rows ≡ o → Opens (opening_clean places counter o)
+        by_held enough None none is = clean_good sound (grind (arith, nat_tests)) (grind (arith, nat_tests)) none
+        by_held enough (Some held) none is = cc
 
 -- ---- every history
 
@@ -298,6 +286,5 @@ module _ {V : Type 0} where
       IfOk r (λ _. Sound m) → IfOk r (λ _. SerialFrom (store m after entries number))
   opening_made m places entries counter (Ok done) after number is at_places at-counter sound =
       let law = opening_serial m places entries counter sound (sym is) in
-      subst (λ (ps : List Place). SerialFrom (store m ps entries number)) (sym at_places)
-      (subst (λ (n : ℕ). SerialFrom (store m (opening m places (length entries) counter).places entries n)) (sym at-counter) law)
+      rw (at_places, at-counter) law
   opening_made m places entries counter (Err fault) after number is at_places at-counter sound = tt

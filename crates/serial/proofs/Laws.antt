@@ -1,13 +1,13 @@
 -- Every call obeys the laws of its refusals and of its reach; its rule is taken apart stage by stage.
 --   Fine st call step    the laws of one call, of a step that it may come to
 --   lawful               the laws of every call
-use Rattle.std.proofs.Common.{◌≡◌, ℕ, ◌+◌, ◌-◌, ◌<◌, ◌≤◌, Bool, true, false, cond, eqb, ltb, ◌⊎◌, List, length, Some, None, Ok, Err, Option, Result, sym, refl, ap, ◌∙◌, subst, inl, inr, arith, length-set}
+use Rattle.std.proofs.Common.{◌≡◌, ℕ, ◌+◌, ◌-◌, ◌<◌, ◌≤◌, Bool, true, false, cond, eqb, ltb, ◌⊎◌, List, length, Some, None, Ok, Err, Option, Result, sym, refl, ap, ◌∙◌, subst, inl, inr, arith, length-set, ◌||◌, leb}
 use Rattle.std.specs.List.{slice_get}
 use Rattle.std.proofs.lemmas.Option.{slice_get_cases, slice_get_within}
 use Rattle.std.proofs.lemmas.Bool.{cond_both}
 use Rattle.std.proofs.lemmas.Bool.Decides.{nat_tests}
 use Rattle.home.specs.declared.fault.Fault.{Fault}
-use Rattle.home.specs.declared.fault.Refusal.TheVariants.{DayFull, MovedOn, Unchecked}
+use Rattle.home.specs.declared.fault.Refusal.TheVariants.{MovedOn}
 use Rattle.home.specs.declared.row.Row.{Row}
 use Rattle.home.specs.declared.row.Cause.{Cause}
 use Rattle.home.specs.declared.row.Change.TheVariants.{Free, Put}
@@ -18,7 +18,7 @@ use Rattle.coordinator.specs.declared.call.Call.{Call}
 use Rattle.coordinator.specs.declared.tables.Place.{Place}
 use Rattle.coordinator.specs.declared.tables.Entry.{Entry}
 use Rattle.coordinator.specs.Tables.{at_cursor, base_of, count_of, cursor_of, entered, fault_of, put_entry, put_place, sheet, sought, tables, used_of}
-use Rattle.coordinator.specs.Calls.{Decision, Did, abort_turn, begin_turn, by_entry, comparing, comparing_at, decide_turn, deciding_at, ending, freed, freeze_turn, holding, holding_at, left_after, loses, moved_to, moving, onward, read_call, reading, reading_new, reading_row, renew_call, renewing, renewing_at, renewing_row, rewriting, settle_call, settling, settling_row, turning, with_places, write_call, writing}
+use Rattle.coordinator.specs.Calls.{Decision, Did, abort_turn, begin_turn, by_entry, comparing, comparing_at, decide_turn, deciding_at, ending, freed, freeze_turn, holding, holding_at, left_after, loses, onward, read_call, reading, reading_new, reading_row, renew_call, renewing, renewing_at, renewing_row, settle_call, settling, settling_row, turning, with_places, write_call, writing}
 use Rattle.serial.specs.Events.{Event, Store, Step, by_decision, by_did, by_turn, did_abort, did_begin, did_decide, did_freeze, did_read, did_renew, did_settle, did_write, refused, stepped}
 use Rattle.serial.specs.Laws.{Handled, Lawful, OneEntry, Reaches, losing, place_of, raised_by}
 use Rattle.serial.proofs.Seats.{by_entered, place_range, sheet_length}
@@ -216,29 +216,17 @@ module _ {V : Type 0} where
   unfolding stepped decide_turn
   fine_decide st p =
       by_first st (Call.Decide p) 6 0 (λ r. step (deciding_at st.tables.places st.counter p r)) (λ fault. refl)
-      (λ pl h. by_tests pl h (ltb (cursor_of pl) (used_of pl)) _ refl)
+      (λ pl h. cond_both (ltb (cursor_of pl) (used_of pl)) _ _ Ends (λ left. stays st _ _ refl)
+      (λ none. cond_both (eqb (count_of st.counter) 999999) _ _ Ends (λ full. stays st _ _ refl)
+      (λ more.
+      let below : count_of st.counter ≡ 999999 → ⊥ = grind (arith, nat_tests) in
+      accepts st _ _ _ refl (reaches st _ p 1 (put_places _ _ _ h.place) (same_sheets _ _) (same_rows _) (omega arith)) tt)))
     where
       step : Decision (ℕ × ℕ) → Step V
       step d = by_decision st (Call.Decide p) (λ commit. did_decide p commit.0 commit.1) d
 
-      turned_down : Fault → Decision (ℕ × ℕ)
-      turned_down fault = record { answer = Err fault; places = st.tables.places; counter = st.counter }
-
-      taken : Place → Decision (ℕ × ℕ)
-      taken pl =
-          record {
-            answer = Ok (pl.ts, count_of st.counter + 1);
-            places = put_place st.tables.places p (moved_to 4 pl);
-            counter = count_of st.counter + 1;
-          }
-
-      by_tests : (pl : Place) → Here st (Call.Decide p) pl → (left full : Bool) → eqb (count_of st.counter) 999999 ≡ full
-          → Fine st (Call.Decide p) (step (cond left (turned_down (fault_of Unchecked p 0 0)) (cond full (turned_down (fault_of DayFull p 0 0)) (taken pl))))
-      by_tests pl h true full is = stays st _ _ refl
-      by_tests pl h false true is = stays st _ _ refl
-      by_tests pl h false false is =
-          let below : count_of st.counter ≡ 999999 → ⊥ = grind (arith, nat_tests) in
-          accepts st _ _ _ refl (reaches st _ p 1 (put_places _ _ _ h.place) (same_sheets _ _) (same_rows _) (omega arith)) tt
+      Ends : Decision (ℕ × ℕ) → Type 0
+      Ends d = Fine st (Call.Decide p) (step d)
 
   -- ---- read
 
@@ -277,17 +265,13 @@ module _ {V : Type 0} where
       write_version at low (Some wts) = turns_away st (Call.Write p key value) pl h.place h.was (fault_of MovedOn p key wts)
       write_version at low None = write_hold at pl.used low _
 
-      write_known : (at : ℕ) (e : Entry V) → at < 16 → (written : Bool)
-          → WriteFine (cond written (rewriting st.tables p pl at e value) (comparing_at st.tables p key value pl at e.wts))
-      unfolding comparing_at
-      write_known at e low true = accepts st _ _ _ refl (reaches st _ p 0 (same_places _ _) (put_sheets p _ _ _ low) (same_rows _) (omega arith)) tt
-      write_known at e low false = write_version at low _
-
       write_sheet : (o : Option (ℕ × Entry V)) → sought key 0 (sheet p (used_of pl) st.tables.entries) ≡ o → WriteFine (writing st.tables p key value pl o)
-      unfolding holding_at
+      unfolding holding_at comparing_at
       write_sheet (Some found) is =
           let size = sheet_length p (used_of pl) st.tables.entries h.place (omega arith) h.long in
-          write_known found.0 found.1 (omega (arith, sought_found key _ found.0 found.1 is)) found.1.written
+          let low : found.0 < 16 = omega (arith, sought_found key _ found.0 found.1 is) in
+          cond_both found.1.written _ _ WriteFine
+          (λ again. accepts st _ _ _ refl (reaches st _ p 0 (same_places _ _) (put_sheets p _ _ _ low) (same_rows _) (omega arith)) tt) (λ read. write_version found.0 low _)
       write_sheet None is =
           cond_both (eqb (used_of pl) 16) _ _ WriteFine (λ full. stays st _ _ refl)
           (λ room. write_hold (used_of pl) (used_of pl + 1) (grind (arith, nat_tests)) _)
@@ -336,17 +320,15 @@ module _ {V : Type 0} where
           accepts st _ _ _ refl (reaches st _ p 0 (put_places _ _ _ h.place) (put_sheets p _ _ _ (omega arith)) (put_rows _ e.key row) (omega arith))
           (handles st (Call.Renew p) pl h e is _ _ (λ i apart. nth_set_other st.tables.entries (base_of p + cursor_of pl) i _ apart))
 
-      renew_entry : (e : Entry V) → at_cursor st.tables.entries p pl ≡ Some e → (kept : Bool)
-          → RenewFine (cond kept (moving st.tables p (left_after pl) (onward pl)) (renewing_at st.tables p pl e))
-      unfolding renewing_at
-      renew_entry e is true =
-          accepts st _ _ _ refl (reaches st _ p 0 (put_places _ _ _ h.place) (same_sheets p _) (same_rows _) (omega arith))
-          (handles st (Call.Renew p) pl h e is _ _ (λ i apart. refl))
-      renew_entry e is false = renew_row e is _
-
       renew_cursor : (o : Option (Entry V)) → at_cursor st.tables.entries p pl ≡ o → RenewFine (renewing st.tables p pl o)
+      unfolding renewing_at
       renew_cursor None is = stays st _ _ refl
-      renew_cursor (Some e) is = renew_entry e is _
+      renew_cursor (Some e) is =
+          cond_both (e.written || leb pl.ts e.rts) _ _ RenewFine
+          (λ kept.
+          accepts st _ _ _ refl (reaches st _ p 0 (put_places _ _ _ h.place) (same_sheets p _) (same_rows _) (omega arith))
+          (handles st (Call.Renew p) pl h e is _ _ (λ i apart. refl)))
+          (λ short. renew_row e is _)
 
     fine_renew : Fine st (Call.Renew p) (stepped st (Call.Renew p))
     unfolding stepped renew_call
@@ -366,20 +348,15 @@ module _ {V : Type 0} where
           accepts st _ _ _ refl (reaches st _ p 0 (put_places _ _ _ h.place) (same_sheets p _) (put_rows _ e.key row) (omega arith))
           (handles st (Call.Settle p) pl h e is _ _ (λ i apart. refl))
 
-      settle_entry : (e : Entry V) → at_cursor st.tables.entries p pl ≡ Some e → (written : Bool)
-          → SettleFine (cond written
-          (settling_row st.tables p pl e (changed st.tables.home e.key (ending p pl e)))
-          (moving st.tables p (left_after pl, false) (onward pl)))
-      settle_entry e is true = settle_row e is _ refl
-      settle_entry e is false =
-          accepts st _ _ _ refl (reaches st _ p 0 (put_places _ _ _ h.place) (same_sheets p _) (same_rows _) (omega arith))
-          (handles st (Call.Settle p) pl h e is _ _ (λ i apart. refl))
-
       settle_cursor : (o : Option (Entry V)) → at_cursor st.tables.entries p pl ≡ o → SettleFine (settling st.tables p pl o)
       settle_cursor None is =
           accepts st _ _ _ refl (reaches st _ p 0 (put_places _ _ _ h.place) (same_sheets p _) (same_rows _) (omega arith))
           (record { place = pl; was = h.was; goes = goes_to st (Call.Settle p) pl h (freed pl); counted = (refl, cursor_past st (Call.Settle p) pl h is) })
-      settle_cursor (Some e) is = settle_entry e is _
+      settle_cursor (Some e) is =
+          cond_both e.written _ _ SettleFine (λ written. settle_row e is _ refl)
+          (λ read.
+          accepts st _ _ _ refl (reaches st _ p 0 (put_places _ _ _ h.place) (same_sheets p _) (same_rows _) (omega arith))
+          (handles st (Call.Settle p) pl h e is _ _ (λ i apart. refl)))
 
     fine_settle : Fine st (Call.Settle p) (stepped st (Call.Settle p))
     unfolding stepped settle_call

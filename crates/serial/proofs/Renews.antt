@@ -1,9 +1,10 @@
 -- renew: one entry of a frozen place is passed, and its lease made to reach the transaction's timestamp where it falls short.
-use Rattle.std.proofs.Common.{◌≡◌, ℕ, ◌+◌, ◌<◌, ◌≤◌, Bool, true, false, cond, ◌||◌, eqb, leb, ◌⊎◌, List, ◌∷◌, length, set, Some, None, Option, sym, refl, ap, ◌∙◌, subst, inl, inr, arith, length-set}
+use Rattle.std.proofs.Common.{◌≡◌, ℕ, ◌+◌, ◌<◌, ◌≤◌, true, false, ◌||◌, eqb, leb, List, ◌∷◌, length, set, Some, None, Option, sym, refl, ap, ◌∙◌, subst, inl, arith, length-set}
 use Rattle.std.specs.List.{slice_get}
 use Rattle.std.proofs.ByRecursion.{All-weaker}
+use Rattle.std.proofs.lemmas.Bool.{cond_both}
 use Rattle.std.proofs.lemmas.Option.{slice_get_within}
-use Rattle.std.proofs.lemmas.Bool.Decides.{eqb_tells, nat_tests}
+use Rattle.std.proofs.lemmas.Bool.Decides.{nat_tests}
 use Rattle.home.specs.declared.row.Row.{Row}
 use Rattle.home.specs.declared.row.Change.{Change}
 use Rattle.home.specs.declared.row.Change.TheVariants.{Renew}
@@ -14,7 +15,7 @@ use Rattle.coordinator.specs.declared.call.Call.{Call}
 use Rattle.coordinator.specs.declared.tables.Place.{Place}
 use Rattle.coordinator.specs.declared.tables.Entry.{Entry}
 use Rattle.coordinator.specs.Tables.{at_cursor, cursor_of, put_entry, sheet, used_of}
-use Rattle.coordinator.specs.Calls.{Did, left_after, moving, onward, renew_call, renewing, renewing_at, renewing_row, wish_of}
+use Rattle.coordinator.specs.Calls.{Did, left_after, onward, renew_call, renewing, renewing_at, renewing_row, wish_of}
 use Rattle.serial.specs.Events.{Event, Store, by_did, did_renew, stepped}
 use Rattle.serial.specs.Transactions.{Transaction, last_write, live, serial_order}
 use Rattle.serial.proofs.Run.{value_upto}
@@ -132,19 +133,12 @@ module _ {V : Type 0} where
             writes = writes;
             decided = b.decided;
             handled = (grind (arith, nat_tests));
-            passed = λ _ j f below is' unwritten. go j f below is' unwritten (eqb_tells j (cursor_of here));
+            passed = λ _ j f below is' unwritten.
+                by_place (λ m. m < cursor_of here + 1 → slice_get sh m ≡ Some f → here.ts ≤ f.rts) (cursor_of here) j
+                (λ _ again. let one : e ≡ f = cc in subst (λ (g : Entry V). here.ts ≤ g.rts) one (reaches (ap (λ (g : Entry V). g.written) one ∙ unwritten)))
+                (λ apart below is'. b.passed frozen j f (omega arith) (sym (others j apart) ∙ is') unwritten) below is';
           };
         }
-      where
-        go : (j : ℕ) (f : Entry V) → j < cursor_of here + 1 → slice_get sh j ≡ Some f → f.written ≡ false
-            → ((eqb j (cursor_of here) ≡ true) × (j ≡ cursor_of here)) ⊎ ((eqb j (cursor_of here) ≡ false) × (j ≡ cursor_of here → ⊥))
-            → here.ts ≤ f.rts
-        go j f below is' unwritten (inl same) =
-            let again = sym (ap (slice_get sh) same.1) ∙ is' in
-            let one : e ≡ f = cc in
-            subst (λ (g : Entry V). here.ts ≤ g.rts) one (reaches (ap (λ (g : Entry V). g.written) one ∙ unwritten))
-        go j f below is' unwritten (inr apart) =
-            (busy frozen).passed frozen j f (omega arith) (sym (others j apart.1) ∙ is') unwritten
 
     -- Nothing is to do for an entry that was written or whose lease reaches the timestamp.
     inv_passed : here.state ≡ 2 → (left : ℕ) (e : Entry V) → at_cursor st.tables.entries p here ≡ Some e
@@ -289,21 +283,16 @@ module _ {V : Type 0} where
     keeps_row : here.state ≡ 2 → (e : Entry V) → at_cursor st.tables.entries p here ≡ Some e → e.written ≡ false
         → (o : Outcome V) → changed st.tables.home e.key (renewal_of e) ≡ o → Keeps (renewing_row st.tables p here e o)
     keeps_row frozen e is unwritten (refuses cause) came =
-        inv_lost x es st p i at (Call.Renew p) (fault_at p e.key cause) here refl (grind (arith, nat_tests))
+        inv_lost x es st p i at (Call.Renew p) (fault_at p e.key cause) (grind (arith, nat_tests))
     keeps_row frozen e is unwritten (grants new) came =
         let g = granted st.tables.home e.key (renewal_of e) new came in
         inv_longer frozen (left_after here) e is unwritten g.0 new g.1 (renewal _ _ _ _ g.0 new g.2)
 
-    keeps_entry : here.state ≡ 2 → (e : Entry V) → at_cursor st.tables.entries p here ≡ Some e
-        → (b : Bool) → e.written || leb here.ts e.rts ≡ b
-        → Keeps (cond b (moving st.tables p (left_after here) (onward here)) (renewing_at st.tables p here e))
-    unfolding renewing_at
-    keeps_entry frozen e is true test = inv_passed frozen (left_after here) e is test
-    keeps_entry frozen e is false test = keeps_row frozen e is (grind (arith, nat_tests)) _ refl
-
     keeps_cursor : here.state ≡ 2 → (o : Option (Entry V)) → at_cursor st.tables.entries p here ≡ o → Keeps (renewing st.tables p here o)
+    unfolding renewing_at
     keeps_cursor frozen None is = inv_refused x es st (Call.Renew p) _ i
-    keeps_cursor frozen (Some e) is = keeps_entry frozen e is _ refl
+    keeps_cursor frozen (Some e) is =
+        cond_both (e.written || leb here.ts e.rts) _ _ Keeps (inv_passed frozen (left_after here) e is) (λ test. keeps_row frozen e is (grind (arith, nat_tests)) _ refl)
 
   module _ (x : ℕ → Option V) (es : List (Event V)) (st : Store V) (i : Inv x es st) (p : ℕ) where
     pub keeps_renew : Inv x ((stepped st (Call.Renew p)).event ∷ es) (stepped st (Call.Renew p)).store

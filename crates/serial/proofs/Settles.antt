@@ -1,6 +1,7 @@
 -- settle: the next key of a place that has won or lost is handled, or the place becomes free.
 use Rattle.std.proofs.Common.{◌≡◌, ℕ, ◌<◌, ◌≤◌, Bool, true, false, cond, ◌&&◌, eqb, leb, List, ◌∷◌, Some, None, Option, sym, refl, ap, ◌∙◌, subst, inl, arith}
 use Rattle.std.specs.List.{slice_get, AllByRecursion as All}
+use Rattle.std.proofs.lemmas.Bool.{cond_both}
 use Rattle.std.proofs.lemmas.Option.{slice_get_within}
 use Rattle.std.proofs.lemmas.Bool.Decides.{nat_tests}
 use Rattle.home.specs.declared.row.Row.{Row}
@@ -12,7 +13,7 @@ use Rattle.coordinator.specs.declared.call.Call.{Call}
 use Rattle.coordinator.specs.declared.tables.Place.{Place}
 use Rattle.coordinator.specs.declared.tables.Entry.{Entry}
 use Rattle.coordinator.specs.Tables.{at_cursor, cursor_of, sheet, used_of}
-use Rattle.coordinator.specs.Calls.{Did, ending, freed, left_after, moving, onward, settle_call, settling, settling_row}
+use Rattle.coordinator.specs.Calls.{Did, ending, freed, left_after, onward, settle_call, settling, settling_row}
 use Rattle.serial.specs.Events.{Event, Store, by_did, did_settle, stepped}
 use Rattle.serial.specs.Transactions.{Live, Transaction, among, nothing_done, is_some, keys_of, last_write, live, next_write, one_if, pending_write, serial_order, settling_now, when, unsettled_write, write_at}
 use Rattle.serial.proofs.Run.{value_upto}
@@ -323,14 +324,9 @@ module _ {V : Type 0} where
           let g = granted st.tables.home e.key (ending p here e) new came in
           inv_ended e is written g.0 g.1 new g.2
 
-      by_written : (e : Entry V) → at_cursor entries p here ≡ Some e → (b : Bool) → e.written ≡ b
-          → SettleKept (cond b (settling_row st.tables p here e (changed st.tables.home e.key (ending p here e))) (moving st.tables p (left_after here, false) (onward here)))
-      by_written e is true written = by_row e is written _ refl
-      by_written e is false written = inv_read e is written
-
       by_entry : (o : Option (Entry V)) → at_cursor entries p here ≡ o → SettleKept (settling st.tables p here o)
       by_entry None is = inv_freed is
-      by_entry (Some e) is = by_written e is e.written refl
+      by_entry (Some e) is = cond_both e.written _ _ SettleKept (λ written. by_row e is written _ refl) (inv_read e is)
 
   module _ (x : ℕ → Option V) (es : List (Event V)) (st : Store V) (i : Inv x es st) (p : ℕ) where
     pub keeps_settle : Inv x ((stepped st (Call.Settle p)).event ∷ es) (stepped st (Call.Settle p)).store

@@ -1,12 +1,13 @@
 -- begin, freeze, abort, and a refusal that loses: the seat moves, and no key is touched.
-use Rattle.std.proofs.Common.{◌≡◌, ℕ, Bool, true, false, cond, ◌&&◌, leb, List, ◌∷◌, length, Some, Option, sym, refl, ap, ◌∙◌, subst, arith}
+use Rattle.std.proofs.Common.{◌≡◌, ℕ, true, ◌&&◌, leb, List, ◌∷◌, length, Some, Option, sym, refl, ap, ◌∙◌, arith}
+use Rattle.std.proofs.lemmas.Bool.{cond_both}
 use Rattle.std.proofs.lemmas.Bool.Decides.{nat_tests}
 use Rattle.home.specs.declared.fault.Fault.{Fault}
 use Rattle.home.specs.Meaning.{is_place}
 use Rattle.coordinator.specs.declared.call.Call.{Call}
 use Rattle.coordinator.specs.declared.tables.Place.{Place}
 use Rattle.coordinator.specs.declared.tables.Entry.{Entry}
-use Rattle.coordinator.specs.Tables.{admits, entered, sheet}
+use Rattle.coordinator.specs.Tables.{sheet}
 use Rattle.coordinator.specs.Calls.{abort_turn, begin_turn, freeze_turn, loses, lost_if, moved_to, with_places}
 use Rattle.serial.specs.Events.{Event, Store, did_abort, did_begin, did_freeze, refused, stepped}
 use Rattle.serial.specs.Transactions.{Live, nothing_done, is_some, live, pending_write, unsettled_write}
@@ -51,17 +52,12 @@ module _ {V : Type 0} where
         n = seat_in p (moved_to s here) st.tables.entries (live p es)
 
     -- A refusal by 2 or 5 turns the place to losing.
-    pub inv_lost : (call : Call V) (fault : Fault) (pl : Place) → here ≡ pl → undecided pl ≡ true → Inv x (refused call fault ∷ es) (record { tables = with_places st.tables (lost_if fault st.tables.places p pl); counter = st.counter })
-    inv_lost call fault pl is was = go (loses fault)
-      where
-        lost : Inv x (refused call fault ∷ es) (moved_state st st.tables.home st.counter p (moved_to 3 pl) st.tables.entries)
-        lost =
-            subst (λ (o : Place). Inv x (refused call fault ∷ es) (moved_state st st.tables.home st.counter p (moved_to 3 o) st.tables.entries)) is
-            (turned (refused call fault) (record { order = refl; grants = refl; put = refl; freed = refl }) (λ q. refl) 3 refl (subst (λ (o : Place). undecided o ≡ true) (sym is) was))
-
-        go : (b : Bool) → Inv x (refused call fault ∷ es) (record { tables = with_places st.tables (cond b (Rattle.coordinator.specs.Tables.put_place st.tables.places p (moved_to 3 pl)) st.tables.places); counter = st.counter })
-        go true = lost
-        go false = inv_refused x es st call fault i
+    pub inv_lost : (call : Call V) (fault : Fault) → undecided here ≡ true
+        → Inv x (refused call fault ∷ es) (record { tables = with_places st.tables (lost_if fault st.tables.places p here); counter = st.counter })
+    inv_lost call fault was =
+        cond_both (loses fault) _ _ (λ ps. Inv x (refused call fault ∷ es) (record { tables = with_places st.tables ps; counter = st.counter }))
+        (λ _. turned (refused call fault) (record { order = refl; grants = refl; put = refl; freed = refl }) (λ q. refl) 3 refl was)
+        (λ _. inv_refused x es st call fault i)
 
   module _ (x : ℕ → Option V) (es : List (Event V)) (st : Store V) (i : Inv x es st) (p : ℕ) where
     pub keeps_freeze : Inv x ((stepped st (Call.Freeze p)).event ∷ es) (stepped st (Call.Freeze p)).store

@@ -14,7 +14,7 @@ use Rattle.coordinator.specs.declared.call.Call.{Call}
 use Rattle.coordinator.specs.declared.tables.Place.{Place}
 use Rattle.coordinator.specs.declared.tables.Entry.{Entry}
 use Rattle.coordinator.specs.Tables.{put_entry, sheet, sought, used_of}
-use Rattle.coordinator.specs.Calls.{Did, comparing, comparing_at, holding, holding_at, moved_on, rewriting, write_call, writing}
+use Rattle.coordinator.specs.Calls.{Did, comparing, comparing_at, holding, holding_at, moved_on, write_call, writing}
 use Rattle.serial.specs.Events.{Event, Store, by_did, did_write, stepped}
 use Rattle.serial.specs.Transactions.{Live, Op, Transaction, among, doing, is_none, is_some, keys_of, last_write, live, noted, one_if, pending_write, serial_order, when, unsettled_write, writes}
 use Rattle.serial.proofs.Run.{Sees, among_noted, never_written, sees_skip, open_is_last}
@@ -377,7 +377,7 @@ module _ {V : Type 0} where
 
       -- the hold's outcome, where the entry that it writes has its place
       by_hold : (n used : ℕ) → ((row : Row V) → slice_get st.tables.home.rows k ≡ Some row → row.holder ≡ 0 → Taken x es st p i at open' k v row n used) → (o : Outcome V) → changed st.tables.home k (Hold p) ≡ o → WriteKept (holding st.tables p k v pl n used o)
-      by_hold n used taken (refuses cause) is = inv_lost x es st p i at (Call.Write p k v) _ pl refl (grind (arith, nat_tests))
+      by_hold n used taken (refuses cause) is = inv_lost x es st p i at (Call.Write p k v) _ (grind (arith, nat_tests))
       by_hold n used taken (grants new) is =
           let g = granted-change st.tables.home k (Hold p) new is in
           let h = hold_granted st.tables.home.last p g.0 new g.2 in
@@ -385,20 +385,17 @@ module _ {V : Type 0} where
 
       by_version : (n : ℕ) (e : Entry V) → sought k 0 (seat_of st es p).sheet ≡ Some (n, e) → e.written ≡ false → (o : Option ℕ) → moved_on e.wts (looked st.tables.home k) ≡ o → WriteKept (comparing st.tables p k v pl n o)
       unfolding holding_at
-      by_version n e is read (Some wts) moved' = inv_lost x es st p i at (Call.Write p k v) _ pl refl (grind (arith, nat_tests))
+      by_version n e is read (Some wts) moved' = inv_lost x es st p i at (Call.Write p k v) _ (grind (arith, nat_tests))
       by_version n e is read None stood =
           by_hold n pl.used
           (λ row row_is free. taken_read x es st p i at open' k v n e is row read free (still_stands e.wts row free (ap (moved_on e.wts) (sym (looked_is st.tables.home k row row_is)) ∙ stood)))
           (changed st.tables.home k (Hold p)) refl
 
-      by_written : (n : ℕ) (e : Entry V) → sought k 0 (seat_of st es p).sheet ≡ Some (n, e) → (b : Bool) → e.written ≡ b → WriteKept (cond b (rewriting st.tables p pl n e v) (comparing_at st.tables p k v pl n e.wts))
-      unfolding comparing_at
-      by_written n e is true written = write_again x es st p i at open' k v n e is written
-      by_written n e is false read = by_version n e is read (moved_on e.wts (looked st.tables.home k)) refl
-
       by_sheet : (o : Option (ℕ × Entry V)) → sought k 0 (seat_of st es p).sheet ≡ o → WriteKept (writing st.tables p k v pl o)
-      unfolding holding_at
-      by_sheet (Some f) is = by_written f.0 f.1 is f.1.written refl
+      unfolding holding_at comparing_at
+      by_sheet (Some f) is =
+          cond_both f.1.written _ _ WriteKept (write_again x es st p i at open' k v f.0 f.1 is)
+          (λ read. by_version f.0 f.1 is read (moved_on f.1.wts (looked st.tables.home k)) refl)
       by_sheet None is =
           cond_both (eqb (used_of pl) 16) _ _ WriteKept (λ full. inv_refused x es st (Call.Write p k v) _ i)
           (λ room. by_hold (used_of pl) (used_of pl + 1)
