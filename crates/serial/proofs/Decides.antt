@@ -18,8 +18,8 @@ use Rattle.serial.specs.Events.{Event, Store, by_decision, did_decide, stepped}
 use Rattle.serial.specs.Transactions.{Transaction, among, deciding_now, insert, is_some, keys_of, last_write, live, pending_write, serial_order, unsettled_write}
 use Rattle.serial.proofs.Seats.{by_entered, length_put_place, place_at}
 use Rattle.serial.proofs.Keys.{found}
-use Rattle.serial.proofs.Run.{Newest, Ordered, Quiet, Sees, AfterSkip, all_insert, along, along_skip, along_unwritten, along_written, ordered, quiet_see, quiet_value, sees_skip, sorted_insert, value_upto, write_after, write_before, write_see, open_is_last, never_written}
-use Rattle.serial.proofs.Invariant.{Busy, HoldOk, Inv, KeyOk, Moves, Seat, Seated, Stake, ahead, bound, seat_of, standing, undecided, void_moves, won_open, all_moved, won_moved, met}
+use Rattle.serial.proofs.Run.{Newest, Ordered, Quiet, Sees, AfterSkip, all_insert, along, along_skip, along_unwritten, along_written, ordered, see_insert, quiet_keeps, skip_keeps, quiet_value, sees_skip, sorted_insert, value_upto, write_after, write_before, open_is_last, never_written}
+use Rattle.serial.proofs.Invariant.{Busy, HoldOk, Inv, KeyOk, Moves, Seat, Seated, Stake, ahead, bound, seat_of, standing, undecided, void_moves, wrote, won_open, all_moved, won_moved, met}
 use Rattle.serial.proofs.Moves.{inv_refused, moved, moved_state}
 use Rattle.serial.proofs.Turns.{same_entries}
 use Rattle.serial.proofs.Changes.{holds_it, loser_won}
@@ -34,12 +34,9 @@ module _ {V : Type 0} where
   -- An entry that is found stands somewhere in the sheet.
   found_nth : (k : ℕ) (es : List (Entry V)) (e : Entry V) → found k es ≡ Some e → (i : ℕ) × (slice_get es i ≡ Some e) × (i < length es)
   found_nth k [] e is = cc
-  found_nth k (a ∷ es) e is = go (eqb a.key k) is (λ later. found_nth k es e later)
-    where
-      go : (b : Bool) → cond b (Some a) (found k es) ≡ Some e → (found k es ≡ Some e → (i : ℕ) × (slice_get es i ≡ Some e) × (i < length es))
-          → (i : ℕ) × (slice_get (a ∷ es) i ≡ Some e) × (i < length (a ∷ es))
-      go true at ih = (zero, at, omega arith)
-      go false at ih = let r = ih at in (suc r.0, r.1, omega arith)
+  found_nth k (a ∷ es) e is =
+      cond_both (eqb a.key k) _ _ (λ o. o ≡ Some e → (i : ℕ) × (slice_get (a ∷ es) i ≡ Some e) × (i < length (a ∷ es)))
+      (λ _ at. (zero, at, omega arith)) (λ _ later. let r = found_nth k es e later in (suc r.0, r.1, omega arith)) is
 
   -- A seat keeps its stake where the run stays as it was up to the end of the lease.
   stake_grows : {k : ℕ} {x : Option V} {row : Row V} {us new : List (Transaction V)} {won after : Option (V × ℕ)} {q : ℕ} {s : Seat V}
@@ -51,19 +48,13 @@ module _ {V : Type 0} where
         owner = old.owner;
         seen = λ u e is unwritten.
             let o = old.seen u e is unwritten in
-            record {
-              fair = o.fair;
-              begins = o.begins;
-              ends = o.ends;
-              value = λ τ low high. same τ (omega arith) ∙ o.value τ low high;
-              sees = o.sees;
-            };
+            record { fair = o.fair; begins = o.begins; ends = o.ends; value = λ τ low high. same τ (omega arith) ∙ o.value τ low high; sees = o.sees };
         holds = old.holds;
         wins = wins;
       }
 
   -- What a frozen place decides on.
-  module _ (s : Seat V) (b : Busy s) (frozen : s.place.state ≡ 2) where
+  module _ {s : Seat V} (b : Busy s) (frozen : s.place.state ≡ 2) where
     unsettled_yet : s.live.handled ≡ 0
     unsettled_yet = grind (arith, nat_tests)
 
@@ -99,7 +90,7 @@ module _ {V : Type 0} where
           fair = old.fair;
           stands = λ τ low. quiet_value k x τ it us quiet ∙ old.stands τ low;
           quiet = all_insert (Skips won) it us skips old.quiet;
-          sees = quiet_see k x it us quiet order newest old.sees sees;
+          sees = see_insert k x it us (quiet_keeps k x it us quiet) order newest old.sees sees;
           above = old.above;
           winner = λ w is. won_moved m k w.0 (λ was. absurd (let o = won_open k (seats p).live w.0 was in cc)) (old.winner w is);
           stakes = all_moved m (Stake k x row (insert it us) won) (stake_decided won (λ v is. cc))
@@ -110,15 +101,15 @@ module _ {V : Type 0} where
     -- The key was not touched.
     key_skipped : among k (keys_of it.ops) ≡ false → KeyOk k x row (insert it us) next won
     key_skipped none =
-        key_left (along_skip k it.ops none) (open_is_last k (seats p).live (unsettled_yet (seats p) b frozen) ∙ never_written k it.ops none) (sees_skip k it.ops none (value_upto k x it.ts us)) (λ _. none)
+        key_left (along_skip k it.ops none) (open_is_last k (seats p).live (unsettled_yet b frozen) ∙ never_written k it.ops none) (sees_skip k it.ops none (value_upto k x it.ts us)) (λ _. none)
 
     -- The key was read only: its lease reaches the timestamp.
-    key_read : (e : Entry V) → found k (seats p).sheet ≡ Some e → e.written ≡ false → last_write k it.ops ≡ None
-        → KeyOk k x row (insert it us) next won
-    key_read e is unwritten none =
-        let lease = (old.stakes p at).seen (is_undecided (seats p) b frozen) e is unwritten in
+    key_read : (e : Entry V) → found k (seats p).sheet ≡ Some e → e.written ≡ false → KeyOk k x row (insert it us) next won
+    key_read e is unwritten =
+        let none : last_write k it.ops ≡ None = wrote b k e is unwritten in
+        let lease = (old.stakes p at).seen (is_undecided b frozen) e is unwritten in
         let stands = lease.value it.ts lease.begins reaches in
-        key_left (along_unwritten k it.ops none) (open_is_last k (seats p).live (unsettled_yet (seats p) b frozen) ∙ none)
+        key_left (along_unwritten k it.ops none) (open_is_last k (seats p).live (unsettled_yet b frozen) ∙ none)
         (subst (λ (o : Option V). Sees k o it.ops) (sym stands) lease.sees)
         (λ late. absurd (let high = bounded won old.above in let r = reaches in omega arith))
       where
@@ -136,13 +127,13 @@ module _ {V : Type 0} where
     key_written v is =
         record {
           fair = old.fair;
-          stands = λ τ low. by_time τ low (leb it.ts τ) refl;
+          stands = by_time;
           quiet = all_insert (Skips (Some (v, it.ts))) it us (λ late. absurd (omega arith)) skips;
-          sees = write_see k x it us skips order newest old.sees (subst (λ (o : Option V). Sees k o it.ops) (sym stood) hold.sees);
+          sees = see_insert k x it us (skip_keeps k x it us skips) order newest old.sees (subst (λ (o : Option V). Sees k o it.ops) (sym stood) hold.sees);
           above = above;
-          winner = λ w same. (p, at, ap (λ (s : Seat V). unsettled_write k s.live) m.here ∙ opens ∙ ap (λ (o : V × ℕ). Some o.0) (pair w same));
+          winner = λ w same. (p, at, ap (λ (s : Seat V). unsettled_write k s.live) m.here ∙ opens ∙ (let pair : (v, it.ts) ≡ w = cc in ap (λ (o : V × ℕ). Some o.0) pair));
           stakes = all_moved m (Stake k x row (insert it us) (Some (v, it.ts)))
-              (stake_decided (Some (v, it.ts)) (λ w is'. ap (λ (a : V). Some (a, it.ts)) (value w is')))
+              (stake_decided (Some (v, it.ts)) (λ w is'. cc (opens)))
               (λ q here apart.
               stake_grows
               (λ τ low. write_before k x τ it us (omega (arith, above)))
@@ -152,16 +143,16 @@ module _ {V : Type 0} where
         }
       where
         opens : pending_write k (seats p).live ≡ Some v
-        opens = open_is_last k (seats p).live (unsettled_yet (seats p) b frozen) ∙ is
+        opens = open_is_last k (seats p).live (unsettled_yet b frozen) ∙ is
 
         mine : row.holder ≡ p
         mine = holds_it old p at (ap is_some opens)
 
         none : won ≡ None
-        none = loser_won old (ap (λ q. (seats q).live.decided) mine ∙ not_decided (seats p) b frozen)
+        none = loser_won old (ap (λ q. (seats q).live.decided) mine ∙ not_decided b frozen)
 
         hold : HoldOk k row (seats p)
-        hold = (old.stakes p at).holds (is_undecided (seats p) b frozen) (ap is_some opens)
+        hold = (old.stakes p at).holds (is_undecided b frozen) (ap is_some opens)
 
         above : row.rts < it.ts
         above = hold.above
@@ -177,18 +168,11 @@ module _ {V : Type 0} where
             All-weaker (Skips won) (Skips (Some (v, it.ts)))
             (λ t h late. h (omega (arith, above, ap (λ (o : Option (V × ℕ)). bound o row) none))) us old.quiet
 
-        by_time : (τ : ℕ) → row.wts ≤ τ → (c : Bool) → leb it.ts τ ≡ c → value_upto k x τ (insert it us) ≡ Some (cond c v row.value)
-        by_time τ low true test =
-            write_after k x τ it us skips order newest (grind (arith, nat_tests))
-            ∙ ap (λ (o : Option V). along k o it.ops) stood
-            ∙ along_written k it.ops v is row.value
-        by_time τ low false test = write_before k x τ it us (grind (arith, nat_tests)) ∙ before_it τ low
-
-        pair : (w : V × ℕ) → Some (v, it.ts) ≡ Some w → (v, it.ts) ≡ w
-        pair w same = cc
-
-        value : (w : V) → pending_write k (seats p).live ≡ Some w → v ≡ w
-        value w same = let o = sym opens ∙ same in cc
+        by_time : (τ : ℕ) → row.wts ≤ τ → value_upto k x τ (insert it us) ≡ Some (cond (leb it.ts τ) v row.value)
+        by_time τ low =
+            cond_both (leb it.ts τ) _ _ (λ (o : V). value_upto k x τ (insert it us) ≡ Some o)
+            (λ past. write_after k x τ it us skips order newest (grind (arith, nat_tests)) ∙ ap (λ (o : Option V). along k o it.ops) stood ∙ along_written k it.ops v is row.value)
+            (λ early. write_before k x τ it us (grind (arith, nat_tests)) ∙ before_it τ low)
 
     abbrev DecidedKey : Type 0
     DecidedKey = (after : Option (V × ℕ)) × KeyOk k x row (insert it us) next after
@@ -196,14 +180,13 @@ module _ {V : Type 0} where
     pub key_decides : DecidedKey
     key_decides = by_entry (found k (seats p).sheet) refl
       where
-        by_mark : (e : Entry V) → found k (seats p).sheet ≡ Some e → (c : Bool) → e.written ≡ c
-            → last_write k it.ops ≡ cond c (Some e.value) None → DecidedKey
-        by_mark e is true mark wrote = (Some (e.value, it.ts), key_written e.value wrote)
-        by_mark e is false mark wrote = (won, key_read e is mark wrote)
+        by_mark : (e : Entry V) → found k (seats p).sheet ≡ Some e → (c : Bool) → e.written ≡ c → DecidedKey
+        by_mark e is true mark = (Some (e.value, it.ts), key_written e.value (wrote b k e is mark))
+        by_mark e is false mark = (won, key_read e is mark)
 
         by_entry : (o : Option (Entry V)) → found k (seats p).sheet ≡ o → DecidedKey
         by_entry None is = (won, key_skipped (met b k is))
-        by_entry (Some e) is = by_mark e is e.written refl (b.writes k e is)
+        by_entry (Some e) is = by_mark e is e.written refl
 
   -- ---- the whole
 
@@ -257,7 +240,7 @@ module _ {V : Type 0} where
               keys = busy.keys;
               writes = busy.writes;
               decided = refl;
-              handled = unsettled_yet seat busy frozen;
+              handled = unsettled_yet busy frozen;
               passed = λ frozen' j e below is unwritten. absurd (omega arith);
             };
           }
@@ -265,7 +248,7 @@ module _ {V : Type 0} where
       decided : Inv x (event ∷ es) next_state
       decided =
           record {
-            many = (let h = i.many in let g = length_put_place st.tables.places p (moved_to 4 here) in omega arith);
+            many = omega (arith, length_put_place st.tables.places p (moved_to 4 here));
             long = i.long;
             seated = all_moved moves (λ q. Seated) seated_decided (λ q at _. i.seated q at);
             keys = λ k row is.

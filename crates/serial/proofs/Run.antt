@@ -2,8 +2,9 @@
 --   along, all_along, value_upto    the value of the key after operations, after transactions, after those up to a timestamp
 --   Sees, AllSee                   every read of the key gets that value
 --   nth_run_ops, nth_run_all, replays    the run of all keys is the run of each
---   quiet_value, quiet_see          insertion of a transaction that leaves the key alone
---   write_before, write_after, write_see    insertion of one that may write it, while the later ones do not use the key
+--   see_insert                      insertion of a transaction, where the later ones still see what they saw
+--   quiet_value, quiet_keeps        insertion of one that leaves the key alone
+--   write_before, write_after, skip_keeps   insertion of one that may write it, while the later ones do not use the key
 --   sorted_insert, arranged_shuffled     the order
 use Rattle.std.proofs.Common.{◌≡◌, ℕ, ◌<◌, ◌≤◌, max, Bool, true, false, cond, ◌||◌, eqb, leb, List, [], ◌∷◌, ◌++◌, set, Some, None, Option, sym, refl, ap, ◌∙◌, subst, arith, drop}
 use Rattle.std.specs.List.{slice_get, AllByRecursion as All}
@@ -175,12 +176,6 @@ module _ {V : Type 0} where
   upto_latest n [] high = tt
   upto_latest n (u ∷ us) high = (omega arith, upto_latest n us (omega arith))
 
-  pub latest_all : (us : List (Transaction V)) → All (λ u. u.ts ≤ latest us) us
-  latest_all us = upto_latest (latest us) us (omega arith)
-
-  all_below : (n m : ℕ) (us : List (Transaction V)) → n ≤ m → All (λ u. u.ts ≤ n) us → All (λ u. u.ts ≤ m) us
-  all_below n m us step low = All-weaker (λ (u : Transaction V). u.ts ≤ n) (λ (u : Transaction V). u.ts ≤ m) (λ u h. omega arith) us low
-
   -- ---- where the newest transaction goes in
 
   -- Its number is the highest, so it goes behind those with a later timestamp alone.
@@ -216,7 +211,7 @@ module _ {V : Type 0} where
   -- Those behind the place of insertion come up to the new timestamp.
   upto_here : (k : ℕ) (x : Option V) (τ : ℕ) (t u : Transaction V) (us : List (Transaction V)) → Ordered (u ∷ us) → u.ts ≤ t.ts → t.ts ≤ τ →
       all_along k x (u ∷ us) ≡ value_upto k x τ (u ∷ us)
-  upto_here k x τ t u us order low high = upto_end k x τ (u ∷ us) (omega arith, all_below u.ts τ us (omega arith) order.0)
+  upto_here k x τ t u us order low high = upto_end k x τ (u ∷ us) (omega arith, All-weaker _ (λ (w : Transaction V). w.ts ≤ τ) (λ w h. omega arith) us order.0)
 
   -- Those with a later timestamp are not counted.
   upto_later : (k : ℕ) (x : Option V) (τ : ℕ) (u : Transaction V) (us : List (Transaction V)) → τ < u.ts → value_upto k x τ (u ∷ us) ≡ value_upto k x τ us
@@ -241,7 +236,7 @@ module _ {V : Type 0} where
   Keeps k x t [] = Unit {0}
   Keeps k x t (u ∷ us) = Keeps k x t us × (t.ts < u.ts → Sees k (all_along k x us) u.ops → Sees k (all_along k x (insert t us)) u.ops)
 
-  see_insert : (k : ℕ) (x : Option V) (t : Transaction V) (us : List (Transaction V)) → Keeps k x t us → Ordered us → Newest t us →
+  pub see_insert : (k : ℕ) (x : Option V) (t : Transaction V) (us : List (Transaction V)) → Keeps k x t us → Ordered us → Newest t us →
       AllSee k x us → Sees k (value_upto k x t.ts us) t.ops → AllSee k x (insert t us)
   see_insert k x t [] keeps order newest sees new = (tt, new)
   see_insert k x t (u ∷ us) keeps order newest sees new =
@@ -257,54 +252,36 @@ module _ {V : Type 0} where
       cond_both (before t u) _ _ (λ new. all_along k x new ≡ all_along k x (u ∷ us))
       (λ _. ap (λ (o : Option V). along k o u.ops) (quiet_all k x t us quiet)) (λ _. quiet (all_along k x (u ∷ us)))
 
-  quiet_keeps : (k : ℕ) (x : Option V) (t : Transaction V) (us : List (Transaction V)) → Quiet k t.ops → Keeps k x t us
+  pub quiet_keeps : (k : ℕ) (x : Option V) (t : Transaction V) (us : List (Transaction V)) → Quiet k t.ops → Keeps k x t us
   quiet_keeps k x t [] quiet = tt
   quiet_keeps k x t (u ∷ us) quiet =
       (quiet_keeps k x t us quiet, λ late saw. subst (λ (o : Option V). Sees k o u.ops) (sym (quiet_all k x t us quiet)) saw)
 
-  pub quiet_see : (k : ℕ) (x : Option V) (t : Transaction V) (us : List (Transaction V)) → Quiet k t.ops → Ordered us → Newest t us →
-      AllSee k x us → Sees k (value_upto k x t.ts us) t.ops → AllSee k x (insert t us)
-  quiet_see k x t us quiet = see_insert k x t us (quiet_keeps k x t us quiet)
-
-  skip_keeps : (k : ℕ) (x : Option V) (t : Transaction V) (us : List (Transaction V)) → AfterSkip k t us → Keeps k x t us
+  pub skip_keeps : (k : ℕ) (x : Option V) (t : Transaction V) (us : List (Transaction V)) → AfterSkip k t us → Keeps k x t us
   skip_keeps k x t [] skip = tt
   skip_keeps k x t (u ∷ us) skip = (skip_keeps k x t us skip.1, λ late saw. sees_skip k u.ops (skip.0 late) (all_along k x (insert t us)))
 
-  pub write_see : (k : ℕ) (x : Option V) (t : Transaction V) (us : List (Transaction V)) → AfterSkip k t us → Ordered us → Newest t us →
-      AllSee k x us → Sees k (value_upto k x t.ts us) t.ops → AllSee k x (insert t us)
-  write_see k x t us skip = see_insert k x t us (skip_keeps k x t us skip)
-
   -- ---- the order
-
-  before_then : (t u w : Transaction V) → before t u ≡ true → before u w ≡ true → before t w ≡ true
-  before_then t u w one two = grind (arith, nat_tests)
 
   all_before_then : (us : List (Transaction V)) (u w : Transaction V) → AllBefore us u → before u w ≡ true → AllBefore us w
   all_before_then [] u w all two = tt
-  all_before_then (t ∷ us) u w all two = (before_then t u w all.0 two, all_before_then us u w all.1 two)
+  all_before_then (t ∷ us) u w all two = (grind (arith, nat_tests, all.0), all_before_then us u w all.1 two)
 
   all_before_insert : (t : Transaction V) (us : List (Transaction V)) (w : Transaction V) → before t w ≡ true → AllBefore us w → AllBefore (insert t us) w
   all_before_insert t [] w one all = (one, tt)
   all_before_insert t (u ∷ us) w one all =
       cond_both (before t u) _ _ (λ new. AllBefore new w) (λ _. (all.0, all_before_insert t us w one all.1)) (λ _. (one, all))
 
-  -- One of two with different numbers comes first.
-  before_or : (t u : Transaction V) → u.number < t.number → before t u ≡ false → before u t ≡ true
-  before_or t u above is = grind (arith, nat_tests)
-
   pub sorted_insert : (t : Transaction V) (us : List (Transaction V)) → Sorted us → Newest t us → Sorted (insert t us)
   sorted_insert t [] sorted newest = (tt, tt)
   sorted_insert t (u ∷ us) sorted newest =
       cond_both (before t u) _ _ Sorted
       (λ is. (all_before_insert t us u is sorted.0, sorted_insert t us sorted.1 newest.1))
-      (λ is. let first = before_or t u newest.0 is in ((first, all_before_then us u t sorted.0 first), sorted))
-
-  under : (w u : Transaction V) → before w u ≡ true → w.ts ≤ u.ts
-  under w u is = grind (arith, nat_tests)
+      (λ is. let first : before u t ≡ true = grind (arith, nat_tests, newest.0) in ((first, all_before_then us u t sorted.0 first), sorted))
 
   ordered_under : (us : List (Transaction V)) (u : Transaction V) → AllBefore us u → All (λ w. w.ts ≤ u.ts) us
   ordered_under [] u all = tt
-  ordered_under (w ∷ us) u all = (under w u all.0, ordered_under us u all.1)
+  ordered_under (w ∷ us) u all = (grind (arith, nat_tests, all.0), ordered_under us u all.1)
 
   pub ordered : (us : List (Transaction V)) → Sorted us → Ordered us
   ordered [] sorted = tt
