@@ -1,5 +1,5 @@
 -- Steps that alter one row: what is owed for the key, and that all else stays.
-use Rattle.std.proofs.Common.{◌≡◌, ℕ, zero, suc, ◌+◌, ◌≤◌, true, false, cond, eqb, List, [], ◌∷◌, length, set, Some, None, Option, sym, ap, ◌∙◌, subst, arith}
+use Rattle.std.proofs.Common.{◌≡◌, ℕ, zero, suc, ◌+◌, ◌≤◌, true, false, cond, eqb, List, [], ◌∷◌, length, set, Some, None, Option, sym, ap, ◌∙◌, subst, arith, length-set, ◌-◌}
 use Rattle.std.specs.List.{slice_get, AllByRecursion as All}
 use Rattle.std.proofs.lemmas.Bool.Decides.{nat_tests}
 use Rattle.home.specs.declared.row.Row.{Row}
@@ -11,7 +11,7 @@ use Rattle.serial.specs.Events.{Event, Store}
 use Rattle.serial.specs.Transactions.{Live, Transaction, among, frees, granted, is_some, keys_of, live, pending_write, puts, serial_order, unsettled_write}
 use Rattle.serial.specs.Serial.{Sorted, held_now}
 use Rattle.serial.proofs.Run.{absent}
-use Rattle.serial.proofs.Seats.{length_put_place, place_range}
+use Rattle.serial.proofs.Seats.{place_range}
 use Rattle.serial.proofs.Invariant.{Alike, Inv, KeyOk, Moves, Seat, Seated, VoidOk, by_place, key_moves, seat_of, stake_alike, void_moves, won_alike, won_open, all_moved, KeyIn}
 use Rattle.serial.proofs.Moves.{moved_state, seat_in}
 
@@ -78,7 +78,7 @@ module _ {V : Type 0} where
     pub inv_changes : Inv x es st → is_place p ≡ true → ChangeOk → Inv x (e ∷ es) next_state
     inv_changes i at ok =
         record {
-          many = (let h = i.many in let g = length_put_place st.tables.places p pl in omega arith);
+          many = (let h = i.many in let g = length-set st.tables.places (p - 1) pl in omega arith);
           long = (let h = i.long in omega arith);
           seated = all_moved ok.moves (λ q. Seated) ok.seated (λ q at _. i.seated q at);
           keys = λ j r is. subst (λ us. (won : Option (V × ℕ)) × KeyOk j (x j) r us (seat_of next_state (e ∷ es)) won) (sym ok.order) (each j r is);

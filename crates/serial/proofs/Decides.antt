@@ -2,7 +2,7 @@
 --   decided_seat s, commit_of number s    the seat that a decide leaves, and the transaction that it adds
 --   key_decides                           what then holds of a key: it was not touched, read only, or written
 --   keeps_decide                          the invariant after any decide
-use Rattle.std.proofs.Common.{◌≡◌, ℕ, zero, suc, ◌+◌, ◌<◌, ◌≤◌, Bool, true, false, cond, eqb, ltb, leb, List, [], ◌∷◌, length, Some, None, Option, sym, refl, ap, ◌∙◌, subst, arith}
+use Rattle.std.proofs.Common.{◌≡◌, ℕ, zero, suc, ◌+◌, ◌<◌, ◌≤◌, Bool, true, false, cond, eqb, ltb, leb, List, [], ◌∷◌, length, Some, None, Option, sym, refl, ap, ◌∙◌, subst, arith, length-set, ◌-◌}
 use Rattle.std.specs.List.{slice_get}
 use Rattle.std.proofs.ByRecursion.{All-weaker}
 use Rattle.std.proofs.lemmas.Bool.{cond_both}
@@ -16,7 +16,7 @@ use Rattle.coordinator.specs.Tables.{count_of, cursor_of, used_of}
 use Rattle.coordinator.specs.Calls.{Decision, decide_turn, deciding_at, moved_to}
 use Rattle.serial.specs.Events.{Event, Store, by_decision, did_decide, stepped}
 use Rattle.serial.specs.Transactions.{Transaction, among, deciding_now, insert, is_some, keys_of, last_write, live, pending_write, serial_order, unsettled_write}
-use Rattle.serial.proofs.Seats.{by_entered, length_put_place, place_at}
+use Rattle.serial.proofs.Seats.{by_entered, place_at}
 use Rattle.serial.proofs.Keys.{found}
 use Rattle.serial.proofs.Run.{Newest, Ordered, Quiet, Sees, AfterSkip, all_insert, along, along_skip, along_unwritten, along_written, ordered, see_insert, quiet_keeps, skip_keeps, quiet_value, sees_skip, sorted_insert, value_upto, write_after, write_before, open_is_last, never_written}
 use Rattle.serial.proofs.Invariant.{Busy, HoldOk, Inv, KeyOk, Moves, Seat, Seated, Stake, ahead, bound, seat_of, standing, undecided, void_moves, wrote, won_open, all_moved, won_moved, met}
@@ -248,7 +248,7 @@ module _ {V : Type 0} where
       decided : Inv x (event ∷ es) next_state
       decided =
           record {
-            many = omega (arith, length_put_place st.tables.places p (moved_to 4 here));
+            many = omega (arith, length-set st.tables.places (p - 1) (moved_to 4 here));
             long = i.long;
             seated = all_moved moves (λ q. Seated) seated_decided (λ q at _. i.seated q at);
             keys = λ k row is.

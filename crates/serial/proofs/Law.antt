@@ -1,10 +1,10 @@
 -- The law of a day from its invariant, and the invariant from the opening on.
-use Rattle.std.proofs.Common.{◌≡◌, ℕ, zero, suc, ◌+◌, ◌-◌, ◌≤◌, true, false, List, [], ◌∷◌, ◌++◌, map, length, take, drop, IfOk, Some, None, Ok, Err, Option, Result, sym, refl, ap, ◌∙◌, inl, arith, length-append, length-drop, length-take-le}
+use Rattle.std.proofs.Common.{◌≡◌, ℕ, zero, suc, ◌+◌, ◌-◌, ◌≤◌, true, false, List, [], ◌∷◌, ◌++◌, map, length, take, drop, IfOk, Some, None, Ok, Err, Option, Result, sym, refl, ap, ◌∙◌, inl, arith, length-append, length-drop, length-take-le, inr}
 use lib.ListN.{length-map, get_or-append, get_or-map}
 use Rattle.std.specs.List.{slice_get, AllByRecursion as All}
 use Rattle.std.specs.Option.{option_map}
 use Rattle.std.proofs.lemmas.Bool.{cond_both}
-use Rattle.std.proofs.lemmas.Option.{slice_get-map}
+use Rattle.std.proofs.lemmas.Option.{slice_get-map, slice_get_cases}
 use Rattle.std.proofs.lemmas.Bool.Decides.{nat_tests}
 use Rattle.home.specs.declared.fault.Fault.{Fault}
 use Rattle.home.specs.declared.row.Row.{Row}
@@ -70,11 +70,7 @@ module _ {V : Type 0} (start : List V) (es : List (Event V)) (st : Store V) (i :
 
   -- A key that the home has, or has not.
   by_row : (P : ℕ → Type 0) (k : ℕ) → ((row : Row V) → slice_get home_rows k ≡ Some row → P k) → (slice_get home_rows k ≡ None → P k) → P k
-  by_row P k some none = go (slice_get home_rows k) refl
-    where
-      go : (o : Option (Row V)) → slice_get home_rows k ≡ o → P k
-      go (Some row) is = some row is
-      go None is = none is
+  by_row P k some none = elim (slice_get_cases home_rows k).1 [ inl h ↦ some h.0 h.2 | inr h ↦ none h.1 ]
 
   see_key : (k : ℕ) → AllSee k (slice_get start k) (serial_order es)
   see_key k =
@@ -95,13 +91,7 @@ module _ {V : Type 0} (start : List V) (es : List (Event V)) (st : Store V) (i :
       let h = ok.winner w refl in
       let r = place_range h.0 h.1 in
       first_some (λ p. unsettled_write k (live p es)) 64 w.0 h.0 r.0 r.1 h.2
-      (λ q v low high is. each q v (grind (arith, nat_tests)) is)
-    where
-      each : (q : ℕ) (v : V) → is_place q ≡ true → unsettled_write k (live q es) ≡ Some v → v ≡ w.0
-      each q v at is =
-          let e = (ok.stakes q at).wins v is in
-          let same : w ≡ (v, (seat_of st es q).place.ts) = cc in
-          sym (ap (λ (u : V × ℕ). u.0) same)
+      (λ q v low high is. let same : w ≡ (v, (seat_of st es q).place.ts) = cc ((ok.stakes q (grind (arith, nat_tests))).wins v is) in sym (ap (λ (u : V × ℕ). u.0) same))
 
   -- At a time past all that was decided, the value that stands is the row's with the unsettled write put in.
   stands_late : (k : ℕ) (row : Row V) (won : Option (V × ℕ)) → RowOk k row won → (τ : ℕ) → bound won row ≤ τ →
@@ -166,11 +156,7 @@ freed_length : (places : List Place) → 64 ≤ length places → length (map fr
 freed_length places many = length-map (take 64 places) freed ∙ length-take-le 64 places many
 
 all_length : (places : List Place) → 64 ≤ length places → length (all_freed places) ≡ length places
-all_length places many =
-    let a = length-append (map freed (take 64 places)) (drop 64 places) in
-    let b = freed_length places many in
-    let c = length-drop 64 places in
-    omega arith
+all_length places many = omega (arith, length-append (map freed (take 64 places)) (drop 64 places), freed_length places many, length-drop 64 places)
 
 freed_place : (places : List Place) (p : ℕ) → 64 ≤ length places → is_place p ≡ true → (place_at (all_freed places) p).state ≡ 0
 freed_place places p many at =
@@ -187,15 +173,12 @@ module _ {V : Type 0} where
 
   free_row : (key : ℕ) (rows : List (Row V)) → held_from key rows ≡ None → (k : ℕ) (row : Row V) → slice_get rows k ≡ Some row → row.holder ≡ 0
   free_row key [] none k row is = cc
-  free_row key (r ∷ rows) none zero row is = let same : r ≡ row = cc in ap (λ (o : Row V). o.holder) (sym same) ∙ (free_first key r rows none).0
+  free_row key (r ∷ rows) none zero row is = cc ((free_first key r rows none).0)
   free_row key (r ∷ rows) none (suc k) row is = free_row (key + 1) rows (free_first key r rows none).1 k row is
 
   free_count : (key : ℕ) (rows : List (Row V)) → held_from key rows ≡ None → held_now rows ≡ 0
   free_count key [] none = refl
-  free_count key (r ∷ rows) none =
-      let h = free_first key r rows none in
-      let ih = free_count (key + 1) rows h.1 in
-      grind (arith, nat_tests)
+  free_count key (r ∷ rows) none = grind (arith, nat_tests, free_first key r rows none, free_count (key + 1) rows (free_first key r rows none).1)
 
   module _ (m : Meaning V) (places : List Place) (entries : List (Entry V)) where
     abbrev clean : Store V
@@ -217,18 +200,18 @@ module _ {V : Type 0} where
         Inv (λ k. slice_get (values_of m) k) [] clean
     clean_inv sound many long none =
         record {
-          many = (let l = all_length places many in omega arith);
+          many = omega (arith, all_length places many);
           long = long;
           seated = λ p at. record {
             free = λ _. refl;
-            busy = λ is. absurd (let free = freed_place places p many at in grind (arith, nat_tests));
+            busy = λ is. grind (arith, nat_tests, freed_place places p many at);
           };
           keys = λ k row is. (None, key k row is (free_row 0 m.rows none k row is));
           voids = λ k is. record { none = slice_get-map value_of m.rows k ∙ ap (option_map value_of) is; skipped = tt; fresh = λ p at. refl };
           sorted = tt;
           numbered = tt;
           limit = omega arith;
-          holds = (let h = free_count 0 m.rows none in omega arith);
+          holds = omega (arith, free_count 0 m.rows none);
         }
       where
         key : (k : ℕ) (row : Row V) → slice_get m.rows k ≡ Some row → row.holder ≡ 0 → KeyOk k (slice_get (values_of m) k) row [] (seat_of clean []) None
@@ -249,7 +232,7 @@ module _ {V : Type 0} where
     clean_good sound many long none =
         record {
           inv = clean_inv sound many long none;
-          runs = λ p at. let free = freed_place places p many at in grind (arith, nat_tests);
+          runs = λ p at. grind (arith, nat_tests, freed_place places p many at);
           orderly = tt;
         }
 

@@ -1,7 +1,7 @@
 -- Every call obeys the laws of its refusals and of its reach; its rule is taken apart stage by stage.
 --   Fine st call step    the laws of one call, of a step that it may come to
 --   lawful               the laws of every call
-use Rattle.std.proofs.Common.{◌≡◌, ℕ, ◌+◌, ◌-◌, ◌<◌, ◌≤◌, Bool, true, false, cond, eqb, ltb, ◌⊎◌, List, length, Some, None, Ok, Err, Option, Result, sym, refl, ap, ◌∙◌, subst, inl, inr, arith, length-set, ◌||◌, leb}
+use Rattle.std.proofs.Common.{◌≡◌, ℕ, ◌+◌, ◌-◌, ◌<◌, ◌≤◌, Bool, true, false, cond, eqb, ltb, ◌⊎◌, List, length, Some, None, Ok, Err, Option, Result, sym, refl, ap, ◌∙◌, subst, arith, length-set, ◌||◌, leb}
 use Rattle.std.specs.List.{slice_get}
 use Rattle.std.proofs.lemmas.Option.{slice_get_cases, slice_get_within}
 use Rattle.std.proofs.lemmas.Bool.{cond_both}
@@ -13,7 +13,7 @@ use Rattle.home.specs.declared.row.Cause.{Cause}
 use Rattle.home.specs.declared.row.Change.TheVariants.{Free, Put}
 use Rattle.home.specs.Rows.{Outcome, refuses, grants}
 use Rattle.home.proofs.Laws.{nth_set_other, nth_set_same}
-use Rattle.home.specs.Meaning.{Meaning, after, amended_at, changed, fault_at, found as row-found, is_place, looked, no_place, raised}
+use Rattle.home.specs.Meaning.{Meaning, after, amended_at, changed, fault_at, is_place, looked, no_place, raised}
 use Rattle.coordinator.specs.declared.call.Call.{Call}
 use Rattle.coordinator.specs.declared.tables.Place.{Place}
 use Rattle.coordinator.specs.declared.tables.Entry.{Entry}
@@ -43,11 +43,7 @@ module _ {V : Type 0} where
   -- A look is refused by 1.
   look_fault : (m : Meaning V) (key : ℕ) (fault : Fault) → looked m key ≡ Err fault → loses fault ≡ false
   unfolding looked
-  look_fault m key fault is = go (slice_get m.rows key) is
-    where
-      go : (o : Option (Row V)) → raised 0 key (row-found o) ≡ Err fault → loses fault ≡ false
-      go None is = grind arith
-      go (Some row) is = cc
+  look_fault m key fault is = grind (arith, slice_get_cases m.rows key)
 
   -- A put or a free is refused by 4, 1, 6, 3 or 7.
   ending_fault : (m : Meaning V) (key p : ℕ) (pl : Place) (e : Entry V) (cause : Cause) → changed m key (ending p pl e) ≡ refuses cause → loses (fault_at p key cause) ≡ false
@@ -85,11 +81,7 @@ module _ {V : Type 0} where
   same_sheets p entries = (λ i out. refl, refl)
 
   put_sheets : (p at : ℕ) (entries : List (Entry V)) (e : Entry V) → at < 16 → OwnSheet p entries (put_entry entries p at e)
-  put_sheets p at entries e low = (λ i out. nth_set_other entries (base_of p + at) i e (λ same. past i out same), length-set entries (base_of p + at) e)
-    where
-      past : (i : ℕ) → (i < base_of p) ⊎ (base_of p + 16 ≤ i) → i ≡ base_of p + at → ⊥
-      past i (inl below) same = omega arith
-      past i (inr above) same = omega arith
+  put_sheets p at entries e low = (λ i out. nth_set_other entries (base_of p + at) i e (λ same. grind arith), length-set entries (base_of p + at) e)
 
   same_rows : (m : Meaning V) → OneRow m m
   same_rows m = ((0, λ k apart. refl), refl, refl)
@@ -133,14 +125,9 @@ module _ {V : Type 0} where
         refusal = λ given came.
             let same : fault ≡ given = cc in
             ap (λ (f : Fault). lost_store st call (loses f) (Some pl)) same ∙ ap (λ o. lost_store st call (loses given) o) (sym is);
-        reach = reaches st (lost_store st call (loses fault) (Some pl)) (place_of call) 0 (by_loss (loses fault)) (same_sheets _ _) (same_rows _) (omega arith);
+        reach = reaches st (lost_store st call (loses fault) (Some pl)) (place_of call) 0 (cond_both (loses fault) _ _ (OwnPlace (place_of call) st.tables.places) (λ _. put_places _ _ _ at) (λ _. same_places _ _)) (same_sheets _ _) (same_rows _) (omega arith);
         single = tt;
       }
-    where
-      by_loss : (b : Bool) → OwnPlace (place_of call) st.tables.places (lost_store st call b (Some pl)).tables.places
-      by_loss true = put_places _ _ _ at
-      by_loss false = same_places _ _
-
   -- ---- an accepted call
 
   abbrev is_refusal : Event V → Bool

@@ -1,5 +1,5 @@
 -- Steps that leave every row and the order alone: one seat moves.
-use Rattle.std.proofs.Common.{◌≡◌, ℕ, ◌≤◌, true, false, List, ◌∷◌, length, Some, None, Ok, Option, sym, ap, ◌∙◌, subst, arith}
+use Rattle.std.proofs.Common.{◌≡◌, ℕ, ◌≤◌, true, false, List, ◌∷◌, length, Some, None, Ok, Option, sym, ap, ◌∙◌, subst, arith, length-set, ◌-◌}
 use Rattle.std.specs.List.{slice_get, AllByRecursion as All}
 use Rattle.home.specs.declared.fault.Fault.{Fault}
 use Rattle.home.specs.declared.row.Row.{Row}
@@ -12,7 +12,7 @@ use Rattle.coordinator.specs.Calls.{Did, at_place, by_entry, turning}
 use Rattle.serial.specs.Events.{Event, Step, Store, by_did, by_turn, refused}
 use Rattle.serial.specs.Transactions.{Live, Transaction, among, frees, granted, keys_of, live, puts, serial_order, unsettled_write}
 use Rattle.serial.specs.Serial.{Sorted}
-use Rattle.serial.proofs.Seats.{Entered, by_entered, length_put_place, place_at, place_other, place_same}
+use Rattle.serial.proofs.Seats.{Entered, by_entered, place_at, place_other, place_same}
 use Rattle.serial.proofs.Invariant.{Alike, Inv, KeyOk, Moves, Seat, Seated, VoidOk, key_moves, seat_of, stake_alike, void_moves, won_alike, all_moved, KeyIn, StakeIn, by_place}
 
 module _ {V : Type 0} where
@@ -97,7 +97,7 @@ module _ {V : Type 0} where
         → MovedOk x es st p (seat_in p pl entries l) → Inv x (e ∷ es) (moved_state st st.tables.home st.counter p pl entries)
     inv_moves i plain at long only here others ok =
         record {
-          many = omega (arith, length_put_place st.tables.places p pl);
+          many = omega (arith, length-set st.tables.places (p - 1) pl);
           long = omega arith;
           seated = all_moved m (λ q. Seated) ok.seated (λ q at _. i.seated q at);
           keys = λ k row is.

@@ -1,22 +1,23 @@
 -- read: of a key in the sheet, and of a new one.
-use Rattle.std.proofs.Common.{◌≡◌, ℕ, ◌+◌, ◌-◌, ◌<◌, ◌≤◌, max, Bool, true, false, cond, eqb, leb, List, [], ◌∷◌, ◌++◌, length, Some, None, Ok, Err, Option, Result, sym, refl, ap, ◌∙◌, subst, arith}
+use Rattle.std.proofs.Common.{◌≡◌, ℕ, ◌+◌, ◌-◌, ◌<◌, ◌≤◌, max, Bool, true, false, cond, eqb, leb, List, [], ◌∷◌, ◌++◌, length, Some, None, Ok, Err, Option, Result, sym, refl, ap, ◌∙◌, subst, arith, length-set}
 use lib.Seq.{set-get_or}
 use Rattle.std.specs.List.{slice_get}
+use Rattle.std.proofs.lemmas.Option.{slice_get_cases}
 use Rattle.std.proofs.lemmas.Bool.{cond_both}
 use Rattle.std.proofs.lemmas.Bool.Decides.{nat_tests}
 use Rattle.std.proofs.lemmas.List.{length_push}
 use Rattle.home.specs.declared.fault.Fault.{Fault}
 use Rattle.home.specs.declared.row.Row.{Row}
-use Rattle.home.specs.Meaning.{Meaning, is_place, looked, raised}
+use Rattle.home.specs.Meaning.{Meaning, is_place, looked}
 use Rattle.coordinator.specs.declared.call.Call.{Call}
 use Rattle.coordinator.specs.declared.tables.Place.{Place}
 use Rattle.coordinator.specs.declared.tables.Entry.{Entry}
-use Rattle.coordinator.specs.Tables.{put_entry, sheet, sought, used_of}
+use Rattle.coordinator.specs.Tables.{put_entry, sheet, sought, used_of, base_of}
 use Rattle.coordinator.specs.Calls.{Did, read_call, reading, reading_new, reading_row}
 use Rattle.serial.specs.Events.{Event, Store, by_did, did_read, stepped}
 use Rattle.serial.specs.Transactions.{Live, Op, among, doing, is_some, keys_of, last_write, live, noted, pending_write, reads, serial_order, when, unsettled_write}
 use Rattle.serial.proofs.Run.{Sees, along, along_unwritten, along_written, among_noted, never_written, sees_skip, value_upto, when_none, written_among, open_is_last}
-use Rattle.serial.proofs.Seats.{blank, length_put_entry, place_at, sheet_other, sheet_push}
+use Rattle.serial.proofs.Seats.{blank, place_at, sheet_other, sheet_push}
 use Rattle.serial.proofs.Keys.{found, found_pushed, found_unpushed, keyed, keyed_push, sought_found, sought_none}
 use Rattle.serial.proofs.Invariant.{Alike, Busy, Inv, KeyOk, LeaseOk, Seat, Seated, Stake, by_place, engaged, seat_of, stake_alike, undecided, won_alike, write_of, met, wrote, KeyIn, StakeIn}
 use Rattle.serial.proofs.Moves.{Kept, entry_kept, inv_moves, inv_refused, moved_state, seat_in, stakes_but}
@@ -205,7 +206,7 @@ module _ {V : Type 0} where
       pub read_new : slice_get st.tables.home.rows k ≡ Some row → Inv x (did_read p k row.value ∷ es) (moved_state st st.tables.home st.counter p place' entries')
       read_new is =
           inv_moves x es st (did_read p k row.value) p place' entries' reader i (record { order = refl; grants = refl; put = refl; freed = refl }) at
-          (length_put_entry st.tables.entries p (used_of here) entry) (λ q n is' apart few. sheet_other p q (used_of here) n st.tables.entries entry at is' apart room few)
+          (length-set st.tables.entries (base_of p + (used_of here)) entry) (λ q n is' apart few. sheet_other p q (used_of here) n st.tables.entries entry at is' apart room few)
           (grind (arith, nat_tests)) (λ q apart. grind (arith, nat_tests))
           (record {
             seated = record { free = λ no'. grind (arith, nat_tests); busy = λ _. busy_new };
@@ -222,11 +223,7 @@ module _ {V : Type 0} where
 
   pub looked_row : (m : Meaning V) (k : ℕ) (row : Row V) → looked m k ≡ Ok row → slice_get m.rows k ≡ Some row
   unfolding looked
-  looked_row m k row is = go (slice_get m.rows k) is
-    where
-      go : (o : Option (Row V)) → raised 0 k (Rattle.home.specs.Meaning.found o) ≡ Ok row → o ≡ Some row
-      go None is = cc
-      go (Some r) is = let same : r ≡ row = cc in ap (λ (o : Row V). Some o) same
+  looked_row m k row is = grind (arith, slice_get_cases m.rows k)
 
   module _ (x : ℕ → Option V) (es : List (Event V)) (st : Store V) (i : Inv x es st) (p k : ℕ) where
     abbrev ReadKept : Did V V → Type 0

@@ -14,12 +14,12 @@ use Rattle.home.proofs.Laws.{granted, nth_set_other, nth_set_same}
 use Rattle.coordinator.specs.declared.call.Call.{Call}
 use Rattle.coordinator.specs.declared.tables.Place.{Place}
 use Rattle.coordinator.specs.declared.tables.Entry.{Entry}
-use Rattle.coordinator.specs.Tables.{at_cursor, cursor_of, put_entry, sheet, used_of}
+use Rattle.coordinator.specs.Tables.{at_cursor, cursor_of, put_entry, sheet, used_of, base_of}
 use Rattle.coordinator.specs.Calls.{Did, left_after, onward, renew_call, renewing, renewing_at, renewing_row, wish_of}
 use Rattle.serial.specs.Events.{Event, Store, by_did, did_renew, stepped}
 use Rattle.serial.specs.Transactions.{Transaction, last_write, live, serial_order}
 use Rattle.serial.proofs.Run.{value_upto}
-use Rattle.serial.proofs.Seats.{length_put_entry, place_at, place_range, sheet_other, sheet_set}
+use Rattle.serial.proofs.Seats.{place_at, place_range, sheet_other, sheet_set}
 use Rattle.serial.proofs.Keys.{found, found_set, keyed, keyed_set, nth_found}
 use Rattle.serial.proofs.Invariant.{Busy, Inv, KeyOk, LeaseOk, Moves, Seat, Seated, Stake, by_place, seat_of, undecided, write_of, all_moved, its_apart, KeyIn, StakeIn}
 use Rattle.serial.proofs.Moves.{Kept, OnlyAt, alike_ok, entry_kept, inv_moves, inv_refused, moved, moved_state, seat_in}
@@ -255,7 +255,7 @@ module _ {V : Type 0} where
           (record {
             order = refl;
             count = (grind (arith, nat_tests));
-            long = length_put_entry st.tables.entries p (cursor_of here) longer;
+            long = length-set st.tables.entries (base_of p + (cursor_of here)) longer;
             was = stored;
             moves = seats_after;
             seated = subst (λ (sh : List (Entry V)). Seated (onward_seat sh)) (sym sheet_same) seated_after;

@@ -2,12 +2,11 @@
 --   place_at places p    the record of place p
 --   Entered              what the tests that come first have found, once they let a call in
 --   by_entered           a call is refused by those tests, or let in
-use Rattle.std.proofs.Common.{◌≡◌, ℕ, suc, ◌+◌, ◌-◌, ◌<◌, ◌≤◌, true, false, List, [], ◌∷◌, ◌++◌, length, get_or, take, drop, set, Some, Ok, Err, Result, sym, refl, ap, ◌∙◌, subst, add-one, arith, length-drop, length-set, length-take-le, get_or-set_other, get_or-set_same, take-suc-set, drop-set-lt}
-use native.Mathlib.Decide.{dec_lt}
+use Rattle.std.proofs.Common.{◌≡◌, ℕ, suc, ◌+◌, ◌-◌, ◌<◌, ◌≤◌, true, false, List, [], ◌∷◌, ◌++◌, length, get_or, take, drop, set, Some, Ok, Err, Result, sym, refl, ap, ◌∙◌, subst, add-one, arith, length-drop, length-take-le, get_or-set_other, get_or-set_same, take-suc-set, drop-set-lt, inl, inr}
 use lib.Seq.{drop-set-add, take-set-le, take-set-lt}
 use Rattle.std.specs.List.{slice_get}
 use Rattle.std.proofs.lemmas.Option.{slice_get-get_or}
-use Rattle.std.proofs.lemmas.Bool.{cond_both}
+use Rattle.std.proofs.lemmas.Bool.{cond_both, cases_lt}
 use Rattle.std.proofs.lemmas.Bool.Decides.{nat_tests}
 use Rattle.home.specs.declared.fault.Fault.{Fault}
 use Rattle.home.specs.Meaning.{is_place}
@@ -64,13 +63,7 @@ place_other ps p q pl is is' apart =
     let r' = place_range q is' in
     get_or-set_other ps (p - 1) (q - 1) pl blank (omega arith)
 
-pub length_put_place : (ps : List Place) (p : ℕ) (pl : Place) → length (put_place ps p pl) ≡ length ps
-length_put_place ps p pl = length-set ps (p - 1) pl
-
 module _ {V : Type 0} where
-  pub length_put_entry : (xs : List (Entry V)) (p at : ℕ) (e : Entry V) → length (put_entry xs p at e) ≡ length xs
-  length_put_entry xs p at e = length-set xs (base_of p + at) e
-
   -- ---- sheets
 
   -- a sheet begins at its place's base
@@ -89,18 +82,11 @@ module _ {V : Type 0} where
       → sheet q n (put_entry xs p at e) ≡ sheet q n xs
   sheet_other p q at n xs e is is' apart low few =
       sheet_is q n (put_entry xs p at e)
-      ∙ (elim (dec_lt p q) [ yes before ↦ over before | no after ↦ under after ])
+      ∙ elim (cases_lt p q) [
+        inl before ↦ let r = place_range p is in ap (take n) (drop-set-lt (base_of q) xs (base_of p + at) e (omega arith))
+        | inr after ↦ let r = place_range q is' in part_below (base_of q) n (base_of p + at) xs e (omega arith)
+      ]
       ∙ sym (sheet_is q n xs)
-    where
-      over : p < q → take n (drop (base_of q) (put_entry xs p at e)) ≡ take n (drop (base_of q) xs)
-      over before =
-          let r = place_range p is in
-          ap (take n) (drop-set-lt (base_of q) xs (base_of p + at) e (omega arith))
-
-      under : (p < q → ⊥) → take n (drop (base_of q) (put_entry xs p at e)) ≡ take n (drop (base_of q) xs)
-      under after =
-          let r = place_range q is' in
-          part_below (base_of q) n (base_of p + at) xs e (omega arith)
 
   pub sheet_set : (p at n : ℕ) (xs : List (Entry V)) (e : Entry V) → is_place p ≡ true → at < n → n ≤ 16
       → sheet p n (put_entry xs p at e) ≡ set (sheet p n xs) at e

@@ -1,24 +1,23 @@
 -- write: of a key already written, of one that was read, and of a new one.
-use Rattle.std.proofs.Common.{◌≡◌, ℕ, ◌+◌, ◌<◌, ◌≤◌, min, max, Bool, true, false, cond, not, ◌&&◌, eqb, List, [], ◌∷◌, ◌++◌, length, set, Some, None, Ok, Option, sym, refl, ap, ◌∙◌, subst, inr, arith, length-set}
+use Rattle.std.proofs.Common.{◌≡◌, ℕ, ◌+◌, ◌<◌, ◌≤◌, min, max, true, false, eqb, List, [], ◌∷◌, ◌++◌, length, set, Some, None, Ok, Option, sym, refl, ap, ◌∙◌, subst, inr, arith, length-set}
 use Rattle.std.specs.List.{slice_get, AllByRecursion as All}
 use Rattle.std.proofs.lemmas.Bool.{cond_both}
 use Rattle.std.proofs.lemmas.Bool.Decides.{nat_tests}
 use Rattle.std.proofs.lemmas.List.{length_push}
-use Rattle.home.specs.declared.fault.Refusal.TheVariants.{Held, TimeSpent}
 use Rattle.home.specs.declared.row.Row.{Row}
 use Rattle.home.specs.declared.row.Change.TheVariants.{Hold}
-use Rattle.home.specs.Rows.{Outcome, because, grants, hold_row, refuses}
-use Rattle.home.specs.Meaning.{Meaning, changed, is_place, looked}
-use Rattle.home.proofs.Laws.{granted as granted-change}
+use Rattle.home.specs.Rows.{Outcome, grants, hold_row, refuses}
+use Rattle.home.specs.Meaning.{changed, is_place, looked}
+use Rattle.home.proofs.Laws.{granted as granted-change, looked_at}
 use Rattle.coordinator.specs.declared.call.Call.{Call}
 use Rattle.coordinator.specs.declared.tables.Place.{Place}
 use Rattle.coordinator.specs.declared.tables.Entry.{Entry}
-use Rattle.coordinator.specs.Tables.{put_entry, sheet, sought, used_of}
+use Rattle.coordinator.specs.Tables.{put_entry, sheet, sought, used_of, base_of}
 use Rattle.coordinator.specs.Calls.{Did, comparing, comparing_at, holding, holding_at, moved_on, write_call, writing}
 use Rattle.serial.specs.Events.{Event, Store, by_did, did_write, stepped}
 use Rattle.serial.specs.Transactions.{Live, Op, Transaction, among, doing, is_none, is_some, keys_of, last_write, live, noted, one_if, pending_write, serial_order, when, unsettled_write, writes}
 use Rattle.serial.proofs.Run.{Sees, among_noted, never_written, sees_skip, open_is_last}
-use Rattle.serial.proofs.Seats.{length_put_entry, place_at, place_range, sheet_other, sheet_push, sheet_set}
+use Rattle.serial.proofs.Seats.{place_at, place_range, sheet_other, sheet_push, sheet_set}
 use Rattle.serial.proofs.Keys.{found, found_pushed, found_set, found_unpushed, keyed, keyed_push, keyed_set, sought_found, sought_none}
 use Rattle.serial.proofs.Invariant.{Alike, Busy, Inv, KeyOk, Seat, by_place, seat_of, standing, write_of, won_open, its_apart, met, wrote, KeyIn, StakeIn, all_moved, Moves, bound}
 use Rattle.serial.proofs.Moves.{Kept, entry_kept, inv_moves, inv_refused, moved, moved_state, seat_in, stakes_but}
@@ -34,15 +33,7 @@ module _ {V : Type 0} where
   -- ---- what a granted hold says
 
   pub hold_granted : (last p : ℕ) (row new : Row V) → hold_row last p row ≡ grants new → (row.holder ≡ 0) × (new ≡ record { value = row.value; wts = row.wts; rts = row.rts; holder = p })
-  hold_granted last p row new is = go (eqb row.holder 0) refl (eqb row.rts last) is
-    where
-      held : Row V
-      held = record { value = row.value; wts = row.wts; rts = row.rts; holder = p }
-
-      go : (a : Bool) → eqb row.holder 0 ≡ a → (b : Bool) → cond a (cond b (because TimeSpent 0) (grants held)) (because Held row.holder) ≡ grants new → (row.holder ≡ 0) × (new ≡ held)
-      go true free true is = cc
-      go true free false is = (grind (arith, nat_tests), cc)
-      go false taken b is = cc
+  hold_granted last p row new is = grind (arith, nat_tests)
 
   -- ---- writes of one key, for another
 
@@ -185,7 +176,7 @@ module _ {V : Type 0} where
                   (let r = place_range p at in
                   let one = ap (λ (o : Option V). one_if (is_none o)) t.unwritten in
                   grind (arith, nat_tests));
-              long = length_put_entry st.tables.entries p at' entry;
+              long = length-set st.tables.entries (base_of p + at') entry;
               was = is;
               moves = moves;
               seated = record { free = λ no'. grind (arith, nat_tests); busy = λ _. busy_held };
@@ -342,7 +333,7 @@ module _ {V : Type 0} where
             subst (λ ps. Inv x (did_write p k v here.ts ∷ es) (record { tables = record { home = st.tables.home; places = ps; entries = again_entries }; counter = st.counter })) (ap (λ (s : Store V). s.tables.places) (same_state st p))
             (inv_moves x es st (did_write p k v here.ts) p here again_entries again i
             (record { order = refl; grants = ap (λ (o : Option V). one_if (is_none o) + Rattle.serial.specs.Transactions.granted es) last_known ∙ (omega arith); put = refl; freed = refl })
-            at (length_put_entry st.tables.entries p n rewritten)
+            at (length-set st.tables.entries (base_of p + n) rewritten)
             (λ q m is' apart few. sheet_other p q n m st.tables.entries rewritten at is' apart (room_known rewritten at_key.1) few)
             (grind (arith, nat_tests)) (λ q apart. grind (arith, nat_tests))
             (record {
@@ -354,18 +345,9 @@ module _ {V : Type 0} where
 
   -- ---- the whole call
 
-  looked_is : (m : Meaning V) (k : ℕ) (row : Row V) → slice_get m.rows k ≡ Some row → looked m k ≡ Ok row
-  unfolding looked
-  looked_is m k row is = ap (λ o. Rattle.home.specs.Meaning.raised 0 k (Rattle.home.specs.Meaning.found o)) is
-
   -- A row that is free and has not moved on has the version that was read.
   still_stands : (wts : ℕ) (row : Row V) → row.holder ≡ 0 → moved_on wts (Ok row) ≡ None → row.wts ≡ wts
-  still_stands wts row free is = let f : eqb row.holder 0 ≡ true = grind (arith, nat_tests) in go (eqb row.holder 0) f (eqb row.wts wts) refl is
-    where
-      go : (a : Bool) → a ≡ true → (b : Bool) → eqb row.wts wts ≡ b → cond (a && not b) (Some row.wts) None ≡ None → row.wts ≡ wts
-      go true yes' true same is = grind (arith, nat_tests)
-      go true yes' false other is = cc
-      go false yes' b same is = cc
+  still_stands wts row free is = grind (arith, nat_tests)
 
   module _ (x : ℕ → Option V) (es : List (Event V)) (st : Store V) (i : Inv x es st) (p k : ℕ) (v : V) where
     abbrev WriteKept : Did V ℕ → Type 0
@@ -388,7 +370,7 @@ module _ {V : Type 0} where
       by_version n e is read (Some wts) moved' = inv_lost x es st p i at (Call.Write p k v) _ (grind (arith, nat_tests))
       by_version n e is read None stood =
           by_hold n pl.used
-          (λ row row_is free. taken_read x es st p i at open' k v n e is row read free (still_stands e.wts row free (ap (moved_on e.wts) (sym (looked_is st.tables.home k row row_is)) ∙ stood)))
+          (λ row row_is free. taken_read x es st p i at open' k v n e is row read free (still_stands e.wts row free (ap (moved_on e.wts) (sym (looked_at st.tables.home k row row_is)) ∙ stood)))
           (changed st.tables.home k (Hold p)) refl
 
       by_sheet : (o : Option (ℕ × Entry V)) → sought k 0 (seat_of st es p).sheet ≡ o → WriteKept (writing st.tables p k v pl o)
