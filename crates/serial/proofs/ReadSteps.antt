@@ -2,7 +2,7 @@
 use Rattle.std.proofs.Common.{◌≡◌, ℕ, ◌+◌, ◌-◌, ◌<◌, ◌≤◌, max, Bool, true, false, cond, eqb, leb, List, [], ◌∷◌, ◌++◌, length, Some, None, Ok, Err, Option, Result, sym, refl, ap, ◌∙◌, subst, arith, length-set}
 use lib.Seq.{set-get_or}
 use Rattle.std.specs.List.{slice_get}
-use Rattle.std.proofs.lemmas.Option.{slice_get_cases}
+use Rattle.std.proofs.lemmas.Option.{slice_get_cases, slice_get_within}
 use Rattle.std.proofs.lemmas.Bool.{cond_both}
 use Rattle.std.proofs.lemmas.Bool.Decides.{nat_tests}
 use Rattle.std.proofs.lemmas.List.{length_push}
@@ -17,9 +17,9 @@ use Rattle.coordinator.specs.Calls.{Did, read_call, reading, reading_new, readin
 use Rattle.serial.specs.Events.{Event, Store, by_did, did_read, stepped}
 use Rattle.serial.specs.Transactions.{Live, Op, among, doing, is_some, keys_of, last_write, live, noted, pending_write, reads, serial_order, when, unsettled_write}
 use Rattle.serial.proofs.Run.{Sees, along, along_unwritten, along_written, among_noted, never_written, sees_skip, value_upto, when_none, written_among, open_is_last}
-use Rattle.serial.proofs.Seats.{blank, place_at, sheet_other, sheet_push}
-use Rattle.serial.proofs.Keys.{found, found_pushed, found_unpushed, keyed, keyed_push, sought_found, sought_none}
-use Rattle.serial.proofs.Invariant.{Alike, Busy, Inv, KeyOk, LeaseOk, Seat, Seated, Stake, by_place, engaged, seat_of, stake_alike, undecided, won_alike, write_of, met, wrote, KeyIn, StakeIn}
+use Rattle.serial.proofs.Seats.{blank, place_at, sheet_other, sheet_push, sheet_set}
+use Rattle.serial.proofs.Keys.{found, found_pushed, found_unpushed, keyed, keyed_push, sought_found, sought_none, found_set, keyed_set}
+use Rattle.serial.proofs.Invariant.{Alike, Busy, Inv, KeyOk, LeaseOk, Seat, Seated, Stake, by_place, engaged, seat_of, stake_alike, undecided, won_alike, write_of, met, wrote, KeyIn, StakeIn, its_apart}
 use Rattle.serial.proofs.Moves.{Kept, entry_kept, inv_moves, inv_refused, moved_state, seat_in, stakes_but}
 use Rattle.serial.proofs.Turns.{same_entries}
 
@@ -45,6 +45,13 @@ module _ {V : Type 0} where
 
   -- ---- an open place
 
+  -- Its sheet with the entry e under the key k, and all else as before.
+  pub record Grown (k : ℕ) (s : Seat V) (sh : List (Entry V)) (e : Entry V) (used : ℕ) : Type 0 where
+    pub sized : length sh ≡ used
+    pub keys : keyed sh ≡ noted k (keys_of s.live.ops)
+    pub first : found k sh ≡ Some e
+    pub others : (j : ℕ) → (j ≡ k → ⊥) → found j sh ≡ found j s.sheet
+
   module _ (x : ℕ → Option V) (es : List (Event V)) (st : Store V) (p : ℕ) (i : Inv x es st) (at : is_place p ≡ true) (open' : (place_at st.tables.places p).state ≡ 1) where
     abbrev here : Place
     here = place_at st.tables.places p
@@ -66,6 +73,34 @@ module _ {V : Type 0} where
 
     is_undecided : undecided here ≡ true
     is_undecided = grind (arith, nat_tests)
+
+    -- one entry more, of a new key
+    pub pushed : (n : ℕ) (e : Entry V) → n ≡ used_of here + 1 → found e.key now_seat.sheet ≡ None → used_of here < 16
+        → Grown e.key now_seat (sheet p n (put_entry st.tables.entries p (used_of here) e)) e (used_of here + 1)
+    pushed n e more unknown room =
+        subst (λ sh. Grown e.key now_seat sh e (used_of here + 1))
+        (sym (ap (λ m. sheet p m (put_entry st.tables.entries p (used_of here) e)) more ∙ sheet_push p (used_of here) st.tables.entries e at room i.long))
+        (record {
+          sized = length_push now_seat.sheet e ∙ omega (arith, is_busy);
+          keys = keyed_push now_seat.sheet e ∙ ap (λ ks. ks ++ e.key ∷ []) is_busy.keys ∙ sym (new_keys e.key (keys_of (live p es).ops) (met is_busy e.key unknown));
+          first = found_pushed now_seat.sheet e unknown;
+          others = found_unpushed now_seat.sheet e;
+        })
+
+    -- one entry stored again, under its key
+    pub stored : (n : ℕ) (e new : Entry V) → slice_get now_seat.sheet n ≡ Some e → found e.key now_seat.sheet ≡ Some e → new.key ≡ e.key → (k : ℕ) → e.key ≡ k
+        → Grown k now_seat (sheet p (used_of here) (put_entry st.tables.entries p n new)) new here.used
+    stored n e new is known same k key =
+        let low = slice_get_within now_seat.sheet n e is in
+        let again = found_set now_seat.sheet n e new is same (its_apart is_busy) in
+        subst (λ j. Grown j now_seat (sheet p (used_of here) (put_entry st.tables.entries p n new)) new here.used) key
+        (subst (λ sh. Grown e.key now_seat sh new here.used) (sym (sheet_set p n (used_of here) st.tables.entries new at (omega (arith, is_busy, low)) (omega arith)))
+        (record {
+          sized = length-set now_seat.sheet n new ∙ is_busy.sized;
+          keys = keyed_set now_seat.sheet n e new is same ∙ is_busy.keys ∙ sym (known_keys e.key (keys_of (live p es).ops) (met is_busy e.key known));
+          first = again.0;
+          others = again.1;
+        }))
 
     -- ---- a key in the sheet
 
@@ -139,16 +174,8 @@ module _ {V : Type 0} where
       not_among : among k (keys_of (live p es).ops) ≡ false
       not_among = met is_busy k unknown
 
-      new_sheet : new_seat.sheet ≡ now_seat.sheet ++ (entry ∷ [])
-      new_sheet =
-          let one : used_of place' ≡ used_of here + 1 = omega arith in
-          ap (λ n. sheet p n entries') one ∙ sheet_push p (used_of here) st.tables.entries entry at room i.long
-
-      found_here : found k new_seat.sheet ≡ Some entry
-      found_here = ap (found k) new_sheet ∙ found_pushed now_seat.sheet entry unknown
-
-      found_there : (j : ℕ) → (j ≡ k → ⊥) → found j new_seat.sheet ≡ found j now_seat.sheet
-      found_there j apart = ap (found j) new_sheet ∙ found_unpushed now_seat.sheet entry j apart
+      grown : Grown k now_seat new_seat.sheet entry (used_of here + 1)
+      grown = pushed (used_of place') entry (omega arith) unknown room
 
       unwritten : last_write k (live p es).ops ≡ None
       unwritten = never_written k (live p es).ops not_among
@@ -159,9 +186,12 @@ module _ {V : Type 0} where
           record {
             few = omega arith;
             within = omega arith;
-            sized = ap length new_sheet ∙ length_push now_seat.sheet entry ∙ (omega arith);
-            keys = ap keyed new_sheet ∙ keyed_push now_seat.sheet entry ∙ ap (λ ks. ks ++ k ∷ []) b.keys ∙ sym (new_keys k (keys_of (live p es).ops) not_among);
-            writes = λ j e is. by_place (λ m. found m new_seat.sheet ≡ Some e → last_write m (live p es).ops ≡ write_of e) k j (λ is. let same : entry ≡ e = cc (found_here) in unwritten ∙ ap write_of same) (λ apart is. b.writes j e (sym (found_there j apart) ∙ is)) is;
+            sized = grown.sized;
+            keys = grown.keys;
+            writes = λ j e is.
+                by_place (λ m. found m new_seat.sheet ≡ Some e → last_write m (live p es).ops ≡ write_of e) k j
+                (λ is. let same : entry ≡ e = cc (grown.first) in unwritten ∙ ap write_of same)
+                (λ apart is. b.writes j e (sym (grown.others j apart) ∙ is)) is;
             decided = b.decided;
             handled = b.handled;
             passed = λ frozen j e below is no'. absurd (omega arith);
@@ -186,7 +216,7 @@ module _ {V : Type 0} where
       stake_new won ok =
           record {
             owner = (ok.stakes p at).owner ∙ ap is_some (sym (open_read k k row.value (live p es) none_handled));
-            seen = λ u e is no'. let same : entry ≡ e = cc (found_here) in subst (LeaseOk k (x k) row (serial_order es) new_seat) same (lease_new won ok);
+            seen = λ u e is no'. let same : entry ≡ e = cc (grown.first) in subst (LeaseOk k (x k) row (serial_order es) new_seat) same (lease_new won ok);
             holds = λ u is. absurd (let o = ap is_some (open_is_last k reader none_handled ∙ unwritten) in cc);
             wins = λ v is. absurd (grind (arith, nat_tests));
           }
@@ -197,7 +227,7 @@ module _ {V : Type 0} where
             write = open_read j k row.value (live p es) none_handled;
             decided = refl;
             undecided = λ u. u;
-            entry = found_there j apart;
+            entry = grown.others j apart;
             later = omega arith;
             same = λ d. absurd (grind (arith, nat_tests));
             sees = λ y s. sees_other j k row.value y (live p es).ops apart s;

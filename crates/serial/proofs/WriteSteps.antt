@@ -1,9 +1,8 @@
 -- write: of a key already written, of one that was read, and of a new one.
-use Rattle.std.proofs.Common.{◌≡◌, ℕ, ◌+◌, ◌<◌, ◌≤◌, min, max, true, false, eqb, List, [], ◌∷◌, ◌++◌, length, set, Some, None, Ok, Option, sym, refl, ap, ◌∙◌, subst, inr, arith, length-set}
+use Rattle.std.proofs.Common.{◌≡◌, ℕ, ◌+◌, ◌<◌, ◌≤◌, min, max, true, false, eqb, List, ◌∷◌, length, Some, None, Ok, Option, sym, refl, ap, ◌∙◌, subst, inr, arith, length-set}
 use Rattle.std.specs.List.{slice_get, AllByRecursion as All}
 use Rattle.std.proofs.lemmas.Bool.{cond_both}
 use Rattle.std.proofs.lemmas.Bool.Decides.{nat_tests}
-use Rattle.std.proofs.lemmas.List.{length_push}
 use Rattle.home.specs.declared.row.Row.{Row}
 use Rattle.home.specs.declared.row.Change.TheVariants.{Hold}
 use Rattle.home.specs.Rows.{Outcome, grants, hold_row, refuses}
@@ -17,13 +16,13 @@ use Rattle.coordinator.specs.Calls.{Did, comparing, comparing_at, holding, holdi
 use Rattle.serial.specs.Events.{Event, Store, by_did, did_write, stepped}
 use Rattle.serial.specs.Transactions.{Live, Op, Transaction, among, doing, is_none, is_some, keys_of, last_write, live, noted, one_if, pending_write, serial_order, when, unsettled_write, writes}
 use Rattle.serial.proofs.Run.{Sees, among_noted, never_written, sees_skip, open_is_last}
-use Rattle.serial.proofs.Seats.{place_at, place_range, sheet_other, sheet_push, sheet_set}
-use Rattle.serial.proofs.Keys.{found, found_pushed, found_set, found_unpushed, keyed, keyed_push, keyed_set, sought_found, sought_none}
-use Rattle.serial.proofs.Invariant.{Alike, Busy, Inv, KeyOk, Seat, by_place, seat_of, standing, write_of, won_open, its_apart, met, wrote, KeyIn, StakeIn, all_moved, Moves, bound}
+use Rattle.serial.proofs.Seats.{place_at, place_range, sheet_other}
+use Rattle.serial.proofs.Keys.{found, sought_found, sought_none}
+use Rattle.serial.proofs.Invariant.{Alike, Busy, Inv, KeyOk, Seat, by_place, seat_of, standing, write_of, won_open, met, wrote, KeyIn, StakeIn, all_moved, Moves, bound}
 use Rattle.serial.proofs.Moves.{Kept, entry_kept, inv_moves, inv_refused, moved, moved_state, seat_in, stakes_but}
 use Rattle.serial.proofs.Turns.{inv_lost}
 use Rattle.serial.proofs.Changes.{free_won, holds_none, inv_changes, with_row}
-use Rattle.serial.proofs.ReadSteps.{is_busy, known_keys, new_keys, no_win, none_handled, not_decided, same_state}
+use Rattle.serial.proofs.ReadSteps.{Grown, pushed, stored, is_busy, known_keys, no_win, none_handled, not_decided, same_state}
 
 -- A key is among the others as before, once one more is noted.
 among_other : (j k : ℕ) (ks : List ℕ) → (j ≡ k → ⊥) → among j (noted k ks) ≡ among j ks
@@ -99,10 +98,7 @@ module _ {V : Type 0} where
         pub room : at' < 16
         pub few : used' ≤ 16
         pub within : here.cursor ≤ used'
-        pub sized : length new_seat.sheet ≡ used'
-        pub keys : keyed new_seat.sheet ≡ noted k (keys_of (live p es).ops)
-        pub first : found k new_seat.sheet ≡ Some entry
-        pub others : (j : ℕ) → (j ≡ k → ⊥) → found j new_seat.sheet ≡ found j now_seat.sheet
+        pub grown : Grown k now_seat new_seat.sheet entry used'
         pub unwritten : last_write k (live p es).ops ≡ None
         pub sees : (won : Option (V × ℕ)) → KeyIn x es st k row won → Sees k (Some row.value) (live p es).ops
 
@@ -112,9 +108,9 @@ module _ {V : Type 0} where
             record {
               few = t.few;
               within = t.within;
-              sized = t.sized;
-              keys = t.keys;
-              writes = writes_after k v new_seat.sheet entry refl t.first t.others;
+              sized = t.grown.sized;
+              keys = t.grown.keys;
+              writes = writes_after k v new_seat.sheet entry refl t.grown.first t.grown.others;
               decided = busy.decided;
               handled = busy.handled;
               passed = λ frozen j e below is no'. absurd (omega arith);
@@ -185,7 +181,7 @@ module _ {V : Type 0} where
                 write = open_other j k v (live p es) unhandled apart;
                 decided = refl;
                 undecided = λ u. u;
-                entry = t.others j apart;
+                entry = t.grown.others j apart;
                 later = omega arith;
                 same = λ d. absurd (grind (arith, nat_tests));
                 sees = λ y s. s;
@@ -205,21 +201,10 @@ module _ {V : Type 0} where
             room = room;
             few = omega arith;
             within = omega (arith, busy);
-            sized = ap length pushed ∙ length_push now_seat.sheet new ∙ omega (arith, busy);
-            keys = ap keyed pushed ∙ keyed_push now_seat.sheet new ∙ ap (λ ks. ks ++ k ∷ []) busy.keys ∙ sym (new_keys k (keys_of (live p es).ops) not_among);
-            first = ap (found k) pushed ∙ found_pushed now_seat.sheet new unknown;
-            others = λ j apart. ap (found j) pushed ∙ found_unpushed now_seat.sheet new j apart;
+            grown = pushed x es st p i at open' (min (used_of here + 1) 16) (record { key = k; wts = row.wts; rts = row.rts; value = v; written = true }) (omega arith) unknown room;
             unwritten = never_written k (live p es).ops not_among;
             sees = λ won ok. sees_skip k (live p es).ops not_among (Some row.value);
           }
-        where
-          new : Entry V
-          new = record { key = k; wts = row.wts; rts = row.rts; value = v; written = true }
-
-          pushed : sheet p (used_of (record { state = here.state; ts = max here.ts (row.rts + 1); used = used_of here + 1; cursor = here.cursor })) (put_entry st.tables.entries p (used_of here) new) ≡ now_seat.sheet ++ (new ∷ [])
-          pushed =
-              let one : min (used_of here + 1) 16 ≡ used_of here + 1 = omega arith in
-              ap (λ n. sheet p n (put_entry st.tables.entries p (used_of here) new)) one ∙ sheet_push p (used_of here) st.tables.entries new at room i.long
 
     -- ---- a key in the sheet
 
@@ -227,41 +212,23 @@ module _ {V : Type 0} where
       abbrev at_key : (slice_get now_seat.sheet n ≡ Some e) × (e.key ≡ k) × (found k now_seat.sheet ≡ Some e) × (n < length now_seat.sheet)
       at_key = sought_found k now_seat.sheet n e where'
 
-      among_known : among k (keys_of (live p es).ops) ≡ true
-      among_known = met busy k at_key.2
-
       -- the entry at its place in the sheet, under the same key
-      module _ (new : Entry V) (same : new.key ≡ k) where
-        changed_sheet : sheet p (used_of here) (put_entry st.tables.entries p n new) ≡ set now_seat.sheet n new
-        changed_sheet = sheet_set p n (used_of here) st.tables.entries new at (omega (arith, busy, at_key)) (omega arith)
+      module _ (new : Entry V) (same : new.key ≡ e.key) where
+        changed_sheet : Grown k now_seat (sheet p (used_of here) (put_entry st.tables.entries p n new)) new here.used
+        changed_sheet = stored x es st p i at open' n e new at_key.0 (subst (λ j. found j now_seat.sheet ≡ Some e) (sym at_key.1) at_key.2) same k at_key.1
 
-        is_key : new.key ≡ e.key
-        is_key = same ∙ sym at_key.1
-
-        changed_first : found k (set now_seat.sheet n new) ≡ Some new
-        changed_first = ap (λ j. found j (set now_seat.sheet n new)) (sym at_key.1) ∙ (found_set now_seat.sheet n e new at_key.0 is_key (its_apart busy)).0
-
-        changed_others : (j : ℕ) → (j ≡ k → ⊥) → found j (set now_seat.sheet n new) ≡ found j now_seat.sheet
-        changed_others j apart = (found_set now_seat.sheet n e new at_key.0 is_key (its_apart busy)).1 j (λ is. apart (is ∙ at_key.1))
-
-        changed_keys : keyed (set now_seat.sheet n new) ≡ noted k (keys_of (live p es).ops)
-        changed_keys = keyed_set now_seat.sheet n e new at_key.0 is_key ∙ busy.keys ∙ sym (known_keys k (keys_of (live p es).ops) among_known)
-
-        room_known : n < 16
-        room_known = omega (arith, busy, at_key)
+      room_known : n < 16
+      room_known = omega (arith, busy, at_key)
 
       -- ---- one that was read: the version still stands
 
       pub taken_read : (row : Row V) → e.written ≡ false → row.holder ≡ 0 → row.wts ≡ e.wts → Taken k v row n here.used
       taken_read row read free stands =
           record {
-            room = room_known new refl;
+            room = room_known;
             few = busy.few;
             within = busy.within;
-            sized = ap length (changed_sheet new refl) ∙ length-set now_seat.sheet n new ∙ busy.sized;
-            keys = ap keyed (changed_sheet new refl) ∙ changed_keys new refl;
-            first = ap (found k) (changed_sheet new refl) ∙ changed_first new refl;
-            others = λ j apart. ap (found j) (changed_sheet new refl) ∙ changed_others new refl j apart;
+            grown = changed_sheet new (sym at_key.1);
             unwritten = wrote busy k e at_key.2 read;
             sees = λ won ok. saw won ok;
           }
@@ -295,20 +262,17 @@ module _ {V : Type 0} where
         last_known : last_write k (live p es).ops ≡ Some e.value
         last_known = wrote busy k e at_key.2 written
 
-        first_again : found k again_seat.sheet ≡ Some rewritten
-        first_again = ap (found k) (changed_sheet rewritten at_key.1) ∙ changed_first rewritten at_key.1
-
-        others_again : (j : ℕ) → (j ≡ k → ⊥) → found j again_seat.sheet ≡ found j now_seat.sheet
-        others_again j apart = ap (found j) (changed_sheet rewritten at_key.1) ∙ changed_others rewritten at_key.1 j apart
+        grown_again : Grown k now_seat again_seat.sheet rewritten here.used
+        grown_again = changed_sheet rewritten refl
 
         busy_again : Busy again_seat
         busy_again =
             record {
               few = busy.few;
               within = busy.within;
-              sized = ap length (changed_sheet rewritten at_key.1) ∙ length-set now_seat.sheet n rewritten ∙ busy.sized;
-              keys = ap keyed (changed_sheet rewritten at_key.1) ∙ changed_keys rewritten at_key.1;
-              writes = writes_after k v again_seat.sheet rewritten refl first_again others_again;
+              sized = grown_again.sized;
+              keys = grown_again.keys;
+              writes = writes_after k v again_seat.sheet rewritten refl grown_again.first grown_again.others;
               decided = busy.decided;
               handled = busy.handled;
               passed = λ frozen j f below is no'. absurd (omega arith);
@@ -319,14 +283,14 @@ module _ {V : Type 0} where
             let was : is_some (pending_write k (live p es)) ≡ true = ap is_some (open_is_last k (live p es) unhandled ∙ last_known) in
             record {
               owner = old.owner ∙ was ∙ ap is_some (sym (open_here k v (live p es) unhandled));
-              seen = λ u f is no'. absurd (cc (first_again));
+              seen = λ u f is no'. absurd (cc (grown_again.first));
               holds = λ u is. let o = old.holds u was in record { above = o.above; sees = o.sees };
               wins = λ v' is. absurd (never_won k v v' is);
             }
 
         alike_again : (j : ℕ) → (j ≡ k → ⊥) → Alike j now_seat again_seat
         alike_again j apart =
-            record { write = open_other j k v (live p es) unhandled apart; decided = refl; undecided = λ u. u; entry = others_again j apart; later = omega arith; same = λ _. refl; sees = λ y s. s }
+            record { write = open_other j k v (live p es) unhandled apart; decided = refl; undecided = λ u. u; entry = grown_again.others j apart; later = omega arith; same = λ _. refl; sees = λ y s. s }
 
         pub write_again : Inv x (did_write p k v here.ts ∷ es) (record { tables = record { home = st.tables.home; places = st.tables.places; entries = again_entries }; counter = st.counter })
         write_again =
@@ -334,13 +298,13 @@ module _ {V : Type 0} where
             (inv_moves x es st (did_write p k v here.ts) p here again_entries again i
             (record { order = refl; grants = ap (λ (o : Option V). one_if (is_none o) + Rattle.serial.specs.Transactions.granted es) last_known ∙ (omega arith); put = refl; freed = refl })
             at (length-set st.tables.entries (base_of p + n) rewritten)
-            (λ q m is' apart few. sheet_other p q n m st.tables.entries rewritten at is' apart (room_known rewritten at_key.1) few)
+            (λ q m is' apart few. sheet_other p q n m st.tables.entries rewritten at is' apart room_known few)
             (grind (arith, nat_tests)) (λ q apart. grind (arith, nat_tests))
             (record {
               seated = record { free = λ no'. grind (arith, nat_tests); busy = λ _. busy_again };
               stakes = stakes_but x es st at k (λ row won _ ok. stake_again row won (ok.stakes p at)) alike_again;
               wins = λ j. ap (λ b. when b (pending_write j again)) undone ∙ sym (no_win x es st p i at open' j);
-              fresh = λ j is was. ap (among j) (known_keys k (keys_of (live p es).ops) among_known) ∙ was;
+              fresh = λ j is was. ap (among j) (known_keys k (keys_of (live p es).ops) (met busy k at_key.2)) ∙ was;
             }))
 
   -- ---- the whole call
