@@ -22,6 +22,7 @@ use Rattle.serial.specs.Serial.{SerialHistory, SerialFrom, held_now, is_held_by,
 use Rattle.serial.proofs.Run.{absent, never_written, when_none, AllSee, all_along, along_skip, arranged_shuffled, latest, nth_run_all, replays, sees_skip, upto_end, upto_latest}
 use Rattle.serial.proofs.Seats.{blank, place_at, place_range}
 use Rattle.serial.proofs.Steps.{keeps}
+use Rattle.serial.proofs.Changes.{stake_absent}
 use Rattle.serial.proofs.Invariant.{Good, Inv, KeyOk, Stake, bound, seat_of, standing}
 
 -- ---- the first that is there
@@ -188,13 +189,7 @@ module _ {V : Type 0} where
         Stake k (slice_get (values_of m) k) row [] None p (seat_of clean [] p)
     free_stake k p row many at free =
         let r = place_range p at in
-        let none = freed_place places p many at in
-        record {
-          owner = grind (arith, nat_tests);
-          seen = λ u e is unwritten. grind (arith, nat_tests);
-          holds = λ u is. cc;
-          wins = λ v is. cc;
-        }
+        stake_absent refl (grind (arith, nat_tests)) (λ u e is unwritten. grind (arith, nat_tests, freed_place places p many at))
 
     clean_inv : Sound m → 64 ≤ length places → 1024 ≤ length entries → held_from 0 m.rows ≡ None →
         Inv (λ k. slice_get (values_of m) k) [] clean

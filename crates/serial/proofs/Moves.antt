@@ -1,5 +1,5 @@
 -- Steps that leave every row and the order alone: one seat moves.
-use Rattle.std.proofs.Common.{◌≡◌, ℕ, ◌≤◌, true, false, List, ◌∷◌, length, Some, None, Ok, Option, sym, ap, ◌∙◌, subst, arith, length-set, ◌-◌}
+use Rattle.std.proofs.Common.{◌≡◌, ℕ, ◌+◌, ◌≤◌, true, false, List, ◌∷◌, length, Some, None, Ok, Option, sym, ap, ◌∙◌, subst, arith, length-set, ◌-◌}
 use Rattle.std.specs.List.{slice_get, AllByRecursion as All}
 use Rattle.home.specs.declared.fault.Fault.{Fault}
 use Rattle.home.specs.declared.row.Row.{Row}
@@ -11,7 +11,7 @@ use Rattle.coordinator.specs.Tables.{entered, put_place, sheet, used_of}
 use Rattle.coordinator.specs.Calls.{Did, at_place, by_entry, turning}
 use Rattle.serial.specs.Events.{Event, Step, Store, by_did, by_turn, refused}
 use Rattle.serial.specs.Transactions.{Live, Transaction, among, frees, granted, keys_of, live, puts, serial_order, unsettled_write}
-use Rattle.serial.specs.Serial.{Sorted}
+use Rattle.serial.specs.Serial.{Sorted, held_now}
 use Rattle.serial.proofs.Seats.{Entered, by_entered, place_at, place_other, place_same}
 use Rattle.serial.proofs.Invariant.{Alike, Inv, KeyOk, Moves, Seat, Seated, VoidOk, key_moves, seat_of, stake_alike, void_moves, won_alike, all_moved, KeyIn, StakeIn, by_place}
 
@@ -91,32 +91,44 @@ module _ {V : Type 0} where
     pub put : puts (e ∷ es) ≡ puts es
     pub freed : frees (e ∷ es) ≡ frees es
 
+  -- What every step owes that leaves the order: its seat, each key and the holds.
+  module _ (x : ℕ → Option V) (es : List (Event V)) (st : Store V) (e : Event V) (home : Meaning V) (p : ℕ) (pl : Place) (entries : List (Entry V)) (l : Live V) where
+    abbrev then_state : Store V
+    then_state = moved_state st home st.counter p pl entries
+
+    abbrev pub KeyThen : ℕ → Row V → Type 0
+    KeyThen k row = (won : Option (V × ℕ)) × KeyOk k (x k) row (serial_order es) (seat_of then_state (e ∷ es)) won
+
+    abbrev pub VoidThen : ℕ → Type 0
+    VoidThen k = VoidOk k (x k) (serial_order es) (seat_of then_state (e ∷ es))
+
+    pub inv_then : Inv x es st → serial_order (e ∷ es) ≡ serial_order es → length entries ≡ length st.tables.entries
+        → Moves (seat_of st es) (seat_of then_state (e ∷ es)) p (seat_in p pl entries l) → Seated (seat_in p pl entries l)
+        → ((k : ℕ) (row : Row V) → slice_get home.rows k ≡ Some row → KeyThen k row) → ((k : ℕ) → slice_get home.rows k ≡ None → VoidThen k)
+        → granted (e ∷ es) ≡ puts (e ∷ es) + frees (e ∷ es) + held_now home.rows → Inv x (e ∷ es) then_state
+    inv_then i order long m seated keys voids holds =
+        record {
+          many = omega (arith, length-set st.tables.places (p - 1) pl);
+          long = omega arith;
+          seated = all_moved m (λ q. Seated) seated (λ q at _. i.seated q at);
+          keys = λ k row is. subst (λ us. (won : Option (V × ℕ)) × KeyOk k (x k) row us (seat_of then_state (e ∷ es)) won) (sym order) (keys k row is);
+          voids = λ k is. subst (λ us. VoidOk k (x k) us (seat_of then_state (e ∷ es))) (sym order) (voids k is);
+          sorted = subst Sorted (sym order) i.sorted;
+          numbered = subst (All (λ (t : Transaction V). t.number ≤ st.counter)) (sym order) i.numbered;
+          limit = i.limit;
+          holds = holds;
+        }
+
   module _ (x : ℕ → Option V) (es : List (Event V)) (st : Store V) (e : Event V) (p : ℕ) (pl : Place) (entries : List (Entry V)) (l : Live V) where
     pub inv_moves : Inv x es st → Plain es e → is_place p ≡ true → length entries ≡ length st.tables.entries → OnlyAt p st.tables.entries entries
         → live p (e ∷ es) ≡ l → ((q : ℕ) → (q ≡ p → ⊥) → live q (e ∷ es) ≡ live q es)
         → MovedOk x es st p (seat_in p pl entries l) → Inv x (e ∷ es) (moved_state st st.tables.home st.counter p pl entries)
     inv_moves i plain at long only here others ok =
-        record {
-          many = omega (arith, length-set st.tables.places (p - 1) pl);
-          long = omega arith;
-          seated = all_moved m (λ q. Seated) ok.seated (λ q at _. i.seated q at);
-          keys = λ k row is.
-              let old = i.keys k row is in
-              (old.0, subst (λ us. KeyOk k (x k) row us (seat_of next (e ∷ es)) old.0) (sym plain.order) (key_moves m (ok.stakes k row old.0 is old.1) (ok.wins k) old.1));
-          voids = λ k is.
-              let old = i.voids k is in
-              subst (λ us. VoidOk k (x k) us (seat_of next (e ∷ es))) (sym plain.order) (void_moves m (ok.fresh k is (old.fresh p at)) old);
-          sorted = subst Sorted (sym plain.order) i.sorted;
-          numbered = subst (All (λ (t : Transaction V). t.number ≤ st.counter)) (sym plain.order) i.numbered;
-          limit = i.limit;
-          holds = omega arith;
-        }
-      where
-        next : Store V
-        next = moved_state st st.tables.home st.counter p pl entries
-
-        m : Moves (seat_of st es) (seat_of next (e ∷ es)) p (seat_in p pl entries l)
-        m = moved st es (e ∷ es) st.tables.home st.counter p pl entries l at i.many only here others
+        let m = moved st es (e ∷ es) st.tables.home st.counter p pl entries l at i.many only here others in
+        inv_then x es st e st.tables.home p pl entries l i plain.order long m ok.seated
+        (λ k row is. let old = i.keys k row is in (old.0, key_moves m (ok.stakes k row old.0 is old.1) (ok.wins k) old.1))
+        (λ k is. let old = i.voids k is in void_moves m (ok.fresh k is (old.fresh p at)) old)
+        (omega arith)
 
   -- What a place has at stake, where every key but one is alike.
   pub stakes_but : (x : ℕ → Option V) (es : List (Event V)) (st : Store V) {p : ℕ} {n : Seat V} → is_place p ≡ true

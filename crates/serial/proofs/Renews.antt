@@ -1,5 +1,5 @@
 -- renew: one entry of a frozen place is passed, and its lease made to reach the transaction's timestamp where it falls short.
-use Rattle.std.proofs.Common.{◌≡◌, ℕ, ◌+◌, ◌<◌, ◌≤◌, true, false, ◌||◌, eqb, leb, List, ◌∷◌, length, set, Some, None, Option, sym, refl, ap, ◌∙◌, subst, inl, arith, length-set}
+use Rattle.std.proofs.Common.{◌≡◌, ℕ, ◌+◌, ◌<◌, ◌≤◌, true, false, ◌||◌, leb, List, ◌∷◌, length, set, Some, None, Option, sym, refl, ap, ◌∙◌, subst, inl, arith, length-set}
 use Rattle.std.specs.List.{slice_get}
 use Rattle.std.proofs.ByRecursion.{All-weaker}
 use Rattle.std.proofs.lemmas.Bool.{cond_both}
@@ -24,7 +24,7 @@ use Rattle.serial.proofs.Keys.{found, found_set, keyed, keyed_set, nth_found}
 use Rattle.serial.proofs.Invariant.{Busy, Inv, KeyOk, LeaseOk, Moves, Seat, Seated, Stake, by_place, seat_of, undecided, write_of, all_moved, its_apart, KeyIn, StakeIn}
 use Rattle.serial.proofs.Moves.{Kept, OnlyAt, alike_ok, entry_kept, inv_moves, inv_refused, moved, moved_state, seat_in}
 use Rattle.serial.proofs.Turns.{inv_lost, same_entries}
-use Rattle.serial.proofs.Changes.{free_won, inv_changes, with_row}
+use Rattle.serial.proofs.Changes.{free_won, inv_changes, with_row, lease_kept, stake_absent}
 
 module _ {V : Type 0} where
   -- ---- the row
@@ -60,22 +60,8 @@ module _ {V : Type 0} where
         → LeaseOk k x new us (record { place = pl; sheet = es; live = s.live }) e)
         → Stake k x new us None q (record { place = pl; sheet = es; live = s.live })
     stake_longer q at s pl es old seen =
-        record {
-          owner = ap (λ h. eqb h q) (r.holder ∙ sym r.free) ∙ old.owner;
-          seen = seen;
-          holds = λ u is.
-              let o = old.owner ∙ is in
-              let g = place_range q at in
-              grind (arith, nat_tests);
-          wins = λ v is. absurd (let w = old.wins v is in cc);
-        }
-
-    stake_other : (q : ℕ) → is_place q ≡ true → (s : Seat V) → Stake k x row us None q s → Stake k x new us None q s
-    stake_other q at s old =
-        stake_longer q at s s.place s.sheet old
-        (λ u e is unwritten.
-        let o = old.seen u e is unwritten in
-        record { fair = o.fair; begins = o.begins; ends = omega arith; value = o.value; sees = o.sees })
+        let g = place_range q at in
+        stake_absent (sym old.owner ∙ grind (arith, nat_tests)) (grind (arith, nat_tests)) seen
 
     key_longer : {seats next : ℕ → Seat V} {p : ℕ} {n : Seat V} → Moves seats next p n → Stake k x new us None p n
         → KeyOk k x row us seats None → KeyOk k x new us next None
@@ -87,7 +73,9 @@ module _ {V : Type 0} where
           sees = old.sees;
           above = tt;
           winner = λ w is. cc;
-          stakes = all_moved m (Stake k x new us None) stake (λ q there _. stake_other q there (seats q) (old.stakes q there));
+          stakes = all_moved m (Stake k x new us None) stake (λ q there _.
+              let was = old.stakes q there in
+              stake_longer q there (seats q) (seats q).place (seats q).sheet was (λ u e is unwritten. lease_kept (was.seen u e is unwritten) r.longer));
           holder = inl r.holder;
         }
 

@@ -19,9 +19,9 @@ use Rattle.serial.specs.Transactions.{Live, Transaction, among, nothing_done, is
 use Rattle.serial.proofs.Run.{value_upto}
 use Rattle.serial.proofs.Seats.{place_at, place_range}
 use Rattle.serial.proofs.Keys.{among_drop, among_here, apart_past, drop_none, keys_apart, nth_found, nth_keyed, nth_keyed_none}
-use Rattle.serial.proofs.Invariant.{Busy, Inv, KeyOk, Moves, Seat, Seated, Stake, bound, by_place, seat_of, standing, undecided, won_open, all_moved, its_apart, wrote, KeyIn}
+use Rattle.serial.proofs.Invariant.{Busy, Inv, KeyOk, Moves, Seat, Seated, Stake, bound, by_place, seat_of, standing, undecided, all_moved, its_apart, wrote, KeyIn}
 use Rattle.serial.proofs.Moves.{Kept, alike_ok, entry_kept, inv_moves, inv_refused, moved, moved_state, seat_in}
-use Rattle.serial.proofs.Changes.{holds_none, inv_changes, loser_won, with_row}
+use Rattle.serial.proofs.Changes.{holds_none, inv_changes, loser_won, with_row, lease_kept, stake_absent}
 use Rattle.serial.proofs.Turns.{same_entries}
 
 module _ {V : Type 0} where
@@ -111,28 +111,13 @@ module _ {V : Type 0} where
         nobody : (q : ℕ) → is_place q ≡ true → eqb new.holder q ≡ false
         nobody q is = let range = place_range q is in grind (arith, nat_tests)
 
-        not_won : (l : Live V) → is_some (pending_write k l) ≡ false → (v : V) → unsettled_write k l ≡ Some v → ⊥
-        not_won l none v is = let o = ap (λ (a : Option V). is_some a) (won_open k l v is).1 in cc
-
         here : Stake k x new us None p n
-        here = record {
-          owner = nobody p at ∙ sym (ap (λ (a : Option V). is_some a) closed);
-          seen = λ u e is unwritten. cc;
-          holds = λ u is. cc;
-          wins = λ v is. absurd (not_won n.live (ap (λ (a : Option V). is_some a) closed) v is);
-        }
+        here = stake_absent (ap is_some closed) (nobody p at) (λ u e is unwritten. cc)
 
         there : (q : ℕ) → is_place q ≡ true → (q ≡ p → ⊥) → Stake k x new us None q (seats q)
         there q is apart =
-            let none = holds_none old q is (λ same. apart (sym same ∙ r.mine)) in
-            record {
-              owner = nobody q is ∙ sym none;
-              seen = λ u e is' unwritten.
-                  let o = (old.stakes q is).seen u e is' unwritten in
-                  record { fair = o.fair; begins = o.begins; ends = (omega arith); value = o.value; sees = o.sees };
-              holds = λ u is'. cc;
-              wins = λ v is'. absurd (not_won (seats q).live none v is');
-            }
+            stake_absent (holds_none old q is (λ same. apart (sym same ∙ r.mine))) (nobody q is)
+            (λ u e is' unwritten. lease_kept ((old.stakes q is).seen u e is' unwritten) r.later)
 
   -- ---- the place
 

@@ -21,7 +21,7 @@ use Rattle.serial.proofs.Keys.{found, sought_found, sought_none}
 use Rattle.serial.proofs.Invariant.{Alike, Busy, Inv, KeyOk, Seat, by_place, seat_of, standing, write_of, won_open, met, wrote, KeyIn, StakeIn, all_moved, Moves, bound}
 use Rattle.serial.proofs.Moves.{Kept, entry_kept, inv_moves, inv_refused, moved, moved_state, seat_in, stakes_but}
 use Rattle.serial.proofs.Turns.{inv_lost}
-use Rattle.serial.proofs.Changes.{free_won, holds_none, inv_changes, with_row}
+use Rattle.serial.proofs.Changes.{free_won, holds_none, inv_changes, with_row, lease_kept, stake_absent}
 use Rattle.serial.proofs.ReadSteps.{Grown, pushed, stored, is_busy, known_keys, no_win, none_handled, not_decided, same_state}
 
 -- A key is among the others as before, once one more is noted.
@@ -127,16 +127,8 @@ module _ {V : Type 0} where
 
         stake_there : (won : Option (V × ℕ)) → KeyIn x es st k row won → (q : ℕ) → is_place q ≡ true → (q ≡ p → ⊥) → StakeIn x es k held_row None q (seat_of st es q)
         stake_there won ok q at_q apart =
-            let old = ok.stakes q at_q in
             let r = place_range q at_q in
-            let none = holds_none ok q at_q (λ same. omega arith) in
-            let nobody : eqb p q ≡ false = grind (arith, nat_tests) in
-            record {
-              owner = nobody ∙ sym none;
-              seen = λ u e is no'. let o = old.seen u e is no' in record { fair = o.fair; begins = o.begins; ends = o.ends; value = o.value; sees = o.sees };
-              holds = λ u some. cc;
-              wins = λ v' win. absurd (let o = ap is_some (won_open k (live q es) v' win).1 in cc);
-            }
+            stake_absent (holds_none ok q at_q (λ same. omega arith)) (grind (arith, nat_tests)) (λ u e is no'. lease_kept ((ok.stakes q at_q).seen u e is no') (omega arith))
 
         abbrev after : Store V
         after = moved_state st (with_row st.tables.home k held_row) st.counter p place' entries'
