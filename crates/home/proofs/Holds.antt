@@ -12,7 +12,8 @@ use Rattle.home.proofs.Laws.{found_after, granted, granted_from, granted_place}
 
 module _ {V : Type 0} (m : Meaning V) (key place : ℕ) where
   -- its lease ends before the last timestamp, and the place is its holder
-  pub held_row : (held : Row V) → Sound m → changed m key (Hold place) ≡ grants held → (is_place place ≡ true) × (held.holder ≡ place) × (held.rts < m.last) × (slice_get (after m key (changed m key (Hold place))).rows key ≡ Some held)
+  pub held_row : (held : Row V) → Sound m → changed m key (Hold place) ≡ grants held
+      → (is_place place ≡ true) × (held.holder ≡ place) × (held.rts < m.last) × (slice_get (after m key (changed m key (Hold place))).rows key ≡ Some held)
   held_row held s is =
       let g = granted m key (Hold place) held is in
       let ok = fair_at m.last m.rows key g.0 s.rows g.1 in

@@ -19,12 +19,16 @@ module _ {V : Type 0} where
   in_table false rows key row at = cc
 
   -- storing what the rule left of the row is what the change leaves
-  pub table_after : (passed : Bool) (last : ℕ) (rows : List (Row V)) (key : ℕ) (change : Change V) (row new : Row V) → checked_place change ≡ Ok tt → found (slice_get (cond passed rows []) key) ≡ Ok row → new ≡ row_after row (amended last change row) → table_meaning passed last (set rows key new) ≡ after (table_meaning passed last rows) key (changed (table_meaning passed last rows) key change)
+  pub table_after : (passed : Bool) (last : ℕ) (rows : List (Row V)) (key : ℕ) (change : Change V) (row new : Row V) → checked_place change ≡ Ok tt → found (slice_get (cond passed rows []) key) ≡ Ok row
+      → new ≡ row_after row (amended last change row)
+      → table_meaning passed last (set rows key new) ≡ after (table_meaning passed last rows) key (changed (table_meaning passed last rows) key change)
   table_after true last rows key change row new ok at left =
       rw (left, made (table_meaning true last rows) key change row ok at) (ap (λ rs. record { last = last; rows = rs }) (stored rows key row _ (found_at rows key row at).1))
   table_after false last rows key change row new ok at left = cc
 
   -- and the conditions on a home stay
-  pub table_sound : (passed : Bool) (last : ℕ) (rows : List (Row V)) (key : ℕ) (change : Change V) (row new : Row V) → checked_place change ≡ Ok tt → found (slice_get (cond passed rows []) key) ≡ Ok row → new ≡ row_after row (amended last change row) → is_sound (table_meaning passed last rows) ≡ true → is_sound (table_meaning passed last (set rows key new)) ≡ true
+  pub table_sound : (passed : Bool) (last : ℕ) (rows : List (Row V)) (key : ℕ) (change : Change V) (row new : Row V) → checked_place change ≡ Ok tt → found (slice_get (cond passed rows []) key) ≡ Ok row
+      → new ≡ row_after row (amended last change row) → is_sound (table_meaning passed last rows) ≡ true
+      → is_sound (table_meaning passed last (set rows key new)) ≡ true
   table_sound passed last rows key change row new ok at left was =
       ap is_sound (table_after passed last rows key change row new ok at left) ∙ parts_sound _ (sound_after (table_meaning passed last rows) key change (sound_parts _ was))

@@ -149,5 +149,5 @@ module _ {V : Type 0} where
   found_set es i e e' at same apart = (
     ap (λ k. found k (set es i e')) (sym same) ∙ nth_found (set es i e') i e' (subst Apart (sym (keyed_set es i e e' at same)) apart) (nth_set_same es i e' at),
     λ k else. found_set_other (found k) (λ (x : Entry V). eqb x.key k) (λ (x : Entry V). Some x) None refl (λ _ _. refl) es i e' e
-    (grind (arith, nat_tests, get_or_from_slice_get es i e e at)) (grind (arith, nat_tests)),
+        (grind (arith, nat_tests, get_or_from_slice_get es i e e at)) (grind (arith, nat_tests)),
   )

@@ -125,9 +125,12 @@ module _ {V : Type 0} where
         refusal = λ given came.
             let same : fault ≡ given = cc in
             ap (λ (f : Fault). lost_store st call (loses f) (Some pl)) same ∙ ap (λ o. lost_store st call (loses given) o) (sym is);
-        reach = reaches st (lost_store st call (loses fault) (Some pl)) (place_of call) 0 (cond_both (loses fault) _ _ (OwnPlace (place_of call) st.tables.places) (λ _. put_places _ _ _ at) (λ _. same_places _ _)) (same_sheets _ _) (same_rows _) (omega arith);
+        reach =
+            reaches st (lost_store st call (loses fault) (Some pl)) (place_of call) 0
+            (cond_both (loses fault) _ _ (OwnPlace (place_of call) st.tables.places) (λ _. put_places _ _ _ at) (λ _. same_places _ _)) (same_sheets _ _) (same_rows _) (omega arith);
         single = tt;
       }
+
   -- ---- an accepted call
 
   abbrev is_refusal : Event V → Bool

@@ -83,7 +83,7 @@ module _ {V : Type 0} where
   sheet_other p q at n xs e is is' apart low few =
       sheet_is q n (put_entry xs p at e)
       ∙ elim (cases_lt p q) [
-        inl before ↦ let r = place_range p is in ap (take n) (drop-set-lt (base_of q) xs (base_of p + at) e (omega arith))
+        | inl before ↦ let r = place_range p is in ap (take n) (drop-set-lt (base_of q) xs (base_of p + at) e (omega arith))
         | inr after ↦ let r = place_range q is' in part_below (base_of q) n (base_of p + at) xs e (omega arith)
       ]
       ∙ sym (sheet_is q n xs)

@@ -13,7 +13,7 @@ use Rattle.serial.specs.Events.{Event, Store, did_abort, did_begin, did_freeze, 
 use Rattle.serial.specs.Transactions.{Live, nothing_done, is_some, live, pending_write, unsettled_write}
 use Rattle.serial.proofs.Seats.{place_at, sheet_none}
 use Rattle.serial.proofs.Keys.{found, keyed}
-use Rattle.serial.proofs.Invariant.{Busy, Inv, Seat, seat_of, undecided}
+use Rattle.serial.proofs.Invariant.{Busy, Inv, seat_of, undecided}
 use Rattle.serial.proofs.Moves.{OnlyAt, Plain, alike_ok, inv_moves, inv_refused, moved_state, seat_in, turn_kept}
 
 module _ {V : Type 0} where
@@ -26,7 +26,8 @@ module _ {V : Type 0} where
     abbrev here : Place
     here = place_at st.tables.places p
 
-    busy_turned : (s : ℕ) → leb 2 s && leb s 3 ≡ true → undecided here ≡ true → Busy (seat_of st es p) → Busy (seat_in p (moved_to s here) st.tables.entries (live p es))
+    busy_turned : (s : ℕ) → leb 2 s && leb s 3 ≡ true → undecided here ≡ true → Busy (seat_of st es p)
+        → Busy (seat_in p (moved_to s here) st.tables.entries (live p es))
     busy_turned s range was b =
         record {
           few = b.few;
@@ -39,7 +40,8 @@ module _ {V : Type 0} where
           passed = λ frozen j e below is unwritten. absurd (omega arith);
         }
 
-    turned : (e : Event V) → Plain es e → ((q : ℕ) → live q (e ∷ es) ≡ live q es) → (s : ℕ) → leb 2 s && leb s 3 ≡ true → undecided here ≡ true → Inv x (e ∷ es) (moved_state st st.tables.home st.counter p (moved_to s here) st.tables.entries)
+    turned : (e : Event V) → Plain es e → ((q : ℕ) → live q (e ∷ es) ≡ live q es) → (s : ℕ) → leb 2 s && leb s 3 ≡ true → undecided here ≡ true
+        → Inv x (e ∷ es) (moved_state st st.tables.home st.counter p (moved_to s here) st.tables.entries)
     turned e plain same s range was =
         inv_moves x es st e p (moved_to s here) st.tables.entries (live p es) i plain at refl
         (same_entries p st.tables.entries) (same p) (λ q _. same q)
@@ -47,9 +49,6 @@ module _ {V : Type 0} where
         (λ k. record { write = refl; decided = refl; undecided = λ _. was; entry = refl; later = omega arith; same = λ _. refl; sees = λ y h. h })
         (λ k. refl)
         (record { free = λ no'. grind (arith, nat_tests); busy = λ _. busy_turned s range was ((i.seated p at).busy (grind (arith, nat_tests))) }))
-      where
-        n : Seat V
-        n = seat_in p (moved_to s here) st.tables.entries (live p es)
 
     -- A refusal by 2 or 5 turns the place to losing.
     pub inv_lost : (call : Call V) (fault : Fault) → undecided here ≡ true

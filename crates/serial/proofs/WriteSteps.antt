@@ -65,11 +65,12 @@ module _ {V : Type 0} where
     never_won k v v' is = let d = (won_open k (doing (writes k v) (live p es)) v' is).0 in grind (arith, nat_tests)
 
     -- What the writes of the sheet are after a write.
-    writes_after : (k : ℕ) (v : V) (sh : List (Entry V)) (e : Entry V) → write_of e ≡ Some v → found k sh ≡ Some e → ((j : ℕ) → (j ≡ k → ⊥) → found j sh ≡ found j now_seat.sheet) → (j : ℕ) (f : Entry V) → found j sh ≡ Some f → last_write j (writes k v ∷ (live p es).ops) ≡ write_of f
-    writes_after k v sh e is-v here' others j f is =
+    writes_after : (k : ℕ) (v : V) (sh : List (Entry V)) (e : Entry V) {used : ℕ} → write_of e ≡ Some v → Grown k now_seat sh e used
+        → (j : ℕ) (f : Entry V) → found j sh ≡ Some f → last_write j (writes k v ∷ (live p es).ops) ≡ write_of f
+    writes_after k v sh e is-v g j f is =
         by_place (λ m. found m sh ≡ Some f → last_write m (writes k v ∷ (live p es).ops) ≡ write_of f) k j
         (λ is. let same : e ≡ f = cc in grind (arith, nat_tests, ap write_of same))
-        (λ apart is. grind (arith, nat_tests, busy.writes j f (sym (others j apart) ∙ is)))
+        (λ apart is. grind (arith, nat_tests, busy.writes j f (sym (g.others j apart) ∙ is)))
         is
 
     -- ---- the first write of a key: the row is held
@@ -110,7 +111,7 @@ module _ {V : Type 0} where
               within = t.within;
               sized = t.grown.sized;
               keys = t.grown.keys;
-              writes = writes_after k v new_seat.sheet entry refl t.grown.first t.grown.others;
+              writes = writes_after k v new_seat.sheet entry refl t.grown;
               decided = busy.decided;
               handled = busy.handled;
               passed = λ frozen j e below is no'. absurd (omega arith);
@@ -264,7 +265,7 @@ module _ {V : Type 0} where
               within = busy.within;
               sized = grown_again.sized;
               keys = grown_again.keys;
-              writes = writes_after k v again_seat.sheet rewritten refl grown_again.first grown_again.others;
+              writes = writes_after k v again_seat.sheet rewritten refl grown_again;
               decided = busy.decided;
               handled = busy.handled;
               passed = λ frozen j f below is no'. absurd (omega arith);
@@ -314,14 +315,16 @@ module _ {V : Type 0} where
       pl = place_at st.tables.places p
 
       -- the hold's outcome, where the entry that it writes has its place
-      by_hold : (n used : ℕ) → ((row : Row V) → slice_get st.tables.home.rows k ≡ Some row → row.holder ≡ 0 → Taken x es st p i at open' k v row n used) → (o : Outcome V) → changed st.tables.home k (Hold p) ≡ o → WriteKept (holding st.tables p k v pl n used o)
+      by_hold : (n used : ℕ) → ((row : Row V) → slice_get st.tables.home.rows k ≡ Some row → row.holder ≡ 0 → Taken x es st p i at open' k v row n used)
+          → (o : Outcome V) → changed st.tables.home k (Hold p) ≡ o → WriteKept (holding st.tables p k v pl n used o)
       by_hold n used taken (refuses cause) is = inv_lost x es st p i at (Call.Write p k v) _ (grind (arith, nat_tests))
       by_hold n used taken (grants new) is =
           let g = granted-change st.tables.home k (Hold p) new is in
           let h = hold_granted st.tables.home.last p g.0 new g.2 in
           subst (λ (o : Row V). WriteKept (holding st.tables p k v pl n used (grants o))) (sym h.1) (write_held x es st p i at open' k v g.0 n used (taken g.0 g.1 h.0) h.0 g.1)
 
-      by_version : (n : ℕ) (e : Entry V) → sought k 0 (seat_of st es p).sheet ≡ Some (n, e) → e.written ≡ false → (o : Option ℕ) → moved_on e.wts (looked st.tables.home k) ≡ o → WriteKept (comparing st.tables p k v pl n o)
+      by_version : (n : ℕ) (e : Entry V) → sought k 0 (seat_of st es p).sheet ≡ Some (n, e) → e.written ≡ false
+          → (o : Option ℕ) → moved_on e.wts (looked st.tables.home k) ≡ o → WriteKept (comparing st.tables p k v pl n o)
       unfolding holding_at
       by_version n e is read (Some wts) moved' = inv_lost x es st p i at (Call.Write p k v) _ (grind (arith, nat_tests))
       by_version n e is read None stood =
