@@ -52,7 +52,7 @@ module _ {V : Type 0} where
 
     -- Where the row is held by another or by nobody, a place has no unsettled write of it.
     pub holds_none : (p : ℕ) → is_place p ≡ true → (row.holder ≡ p → ⊥) → is_some (pending_write k (seats p).live) ≡ false
-    holds_none p at apart = sym (ok.stakes p at).owner ∙ (grind (arith, nat_tests))
+    holds_none p at apart = sym (ok.stakes p at).owner ∙ grind (arith, nat_tests)
 
   -- ---- places that do not hold the key
 
@@ -64,7 +64,7 @@ module _ {V : Type 0} where
   pub stake_absent : {k : ℕ} {x : Option V} {new : Row V} {us : List (Transaction V)} {q : ℕ} {s : Seat V} → is_some (pending_write k s.live) ≡ false → eqb new.holder q ≡ false
       → (undecided s.place ≡ true → (e : Entry V) → found k s.sheet ≡ Some e → e.written ≡ false → LeaseOk k x new us s e) → Stake k x new us None q s
   stake_absent {k} {s = s} none nobody seen =
-      record { owner = nobody ∙ sym none; seen = seen; holds = λ u some. cc; wins = λ v win. absurd (let o = ap is_some (won_open k s.live v win).1 in cc) }
+      record { owner = nobody ∙ sym none; seen = seen; holds = λ u some. cc; wins = λ v win. cc (ap is_some (won_open k s.live v win).1) }
 
   abbrev pub with_row : Meaning V → ℕ → Row V → Meaning V
   with_row m k row = record { last = m.last; rows = set m.rows k row }

@@ -92,7 +92,7 @@ module _ {V : Type 0} where
           quiet = all_insert (Skips won) it us skips old.quiet;
           sees = see_insert k x it us (quiet_keeps k x it us quiet) order newest old.sees sees;
           above = old.above;
-          winner = λ w is. won_moved m k w.0 (λ was. absurd (let o = won_open k (seats p).live w.0 was in cc)) (old.winner w is);
+          winner = λ w is. won_moved m k w.0 (λ was. cc ((won_open k (seats p).live w.0 was).1)) (old.winner w is);
           stakes = all_moved m (Stake k x row (insert it us) won) (stake_decided won (λ v is. cc))
               (λ q here _. stake_grows (λ τ _. quiet_value k x τ it us quiet) (old.stakes q here).wins (old.stakes q here));
           holder = old.holder;
@@ -111,7 +111,7 @@ module _ {V : Type 0} where
         let stands = lease.value it.ts lease.begins reaches in
         key_left (along_unwritten k it.ops none) (open_is_last k (seats p).live (unsettled_yet b frozen) ∙ none)
         (subst (λ (o : Option V). Sees k o it.ops) (sym stands) lease.sees)
-        (λ late. absurd (let high = bounded won old.above in let r = reaches in omega arith))
+        (λ late. absurd (omega (arith, bounded won old.above, reaches)))
       where
         reaches : it.ts ≤ e.rts
         reaches =

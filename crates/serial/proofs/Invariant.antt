@@ -191,7 +191,7 @@ module _ {V : Type 0} where
             record { fair = o.fair; begins = (let b = o.begins in let l = a.later in omega arith); ends = o.ends; value = o.value; sees = a.sees _ o.sees };
         holds = λ u is.
             let o = old.holds (a.undecided u) (sym (ap is_some a.write) ∙ is) in
-            record { above = (omega arith); sees = a.sees _ o.sees };
+            record { above = omega arith; sees = a.sees _ o.sees };
         wins = λ v is.
             let was = sym (won_alike a) ∙ is in
             let t = a.same (won_open k s.live v was).0 in

@@ -148,7 +148,7 @@ module _ {V : Type 0} where
       → Fine st call (record { event = e; store = new })
   accepts st new call e accepted reach single =
       record {
-        refusal = λ fault is. absurd (let r = ap is_refusal is in cc);
+        refusal = λ fault is. cc (ap is_refusal is);
         reach = reach;
         single = single;
       }

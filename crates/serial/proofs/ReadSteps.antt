@@ -127,7 +127,7 @@ module _ {V : Type 0} where
                 let w = wrote is_busy k f is unwritten in
                 record { fair = o.fair; begins = o.begins; ends = o.ends; value = o.value; sees = (o.sees, λ _. along_unwritten k (live p es).ops w (Some f.value) ∙ ap (λ (g : Entry V). Some g.value) (sym same)) };
             holds = λ u is. held_known row (old.holds u (ap is_some (sym (open_read k k e.value (live p es) none_handled)) ∙ is)) (ap is_some (sym (open_is_last k after none_handled)) ∙ is);
-            wins = λ v is. absurd (let n = not_decided in grind (arith, nat_tests));
+            wins = λ v is. grind (arith, nat_tests, not_decided);
           }
         where
           held_known : (row : Row V) → Rattle.serial.proofs.Invariant.HoldOk k row now_seat → is_some (last_write k (live p es).ops) ≡ true → Rattle.serial.proofs.Invariant.HoldOk k row (seat_in p here st.tables.entries after)
@@ -217,7 +217,7 @@ module _ {V : Type 0} where
           record {
             owner = (ok.stakes p at).owner ∙ ap is_some (sym (open_read k k row.value (live p es) none_handled));
             seen = λ u e is no'. let same : entry ≡ e = cc (grown.first) in subst (LeaseOk k (x k) row (serial_order es) new_seat) same (lease_new won ok);
-            holds = λ u is. absurd (let o = ap is_some (open_is_last k reader none_handled ∙ unwritten) in cc);
+            holds = λ u is. absurd (cc (ap is_some (open_is_last k reader none_handled ∙ unwritten)));
             wins = λ v is. absurd (grind (arith, nat_tests));
           }
 

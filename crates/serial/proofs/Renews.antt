@@ -120,7 +120,7 @@ module _ {V : Type 0} where
             keys = keys ∙ b.keys;
             writes = writes;
             decided = b.decided;
-            handled = (grind (arith, nat_tests));
+            handled = grind (arith, nat_tests);
             passed = λ _ j f below is' unwritten.
                 by_place (λ m. m < cursor_of here + 1 → slice_get sh m ≡ Some f → here.ts ≤ f.rts) (cursor_of here) j
                 (λ _ again. let one : e ≡ f = cc in subst (λ (g : Entry V). here.ts ≤ g.rts) one (reaches (ap (λ (g : Entry V). g.written) one ∙ unwritten)))
@@ -242,8 +242,8 @@ module _ {V : Type 0} where
           inv_changes x es st (did_renew p left) p (onward here) entries_after (live p es) e.key row new i at
           (record {
             order = refl;
-            count = (grind (arith, nat_tests));
-            long = length-set st.tables.entries (base_of p + (cursor_of here)) longer;
+            count = grind (arith, nat_tests);
+            long = length-set st.tables.entries (base_of p + cursor_of here) longer;
             was = stored;
             moves = seats_after;
             seated = subst (λ (sh : List (Entry V)). Seated (onward_seat sh)) (sym sheet_same) seated_after;

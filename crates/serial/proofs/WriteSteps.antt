@@ -121,7 +121,7 @@ module _ {V : Type 0} where
         stake_here won ok =
             record {
               owner = (let yes' : eqb p p ≡ true = grind (arith, nat_tests) in yes' ∙ ap is_some (sym (open_here k v (live p es) unhandled)));
-              seen = λ u e is no'. absurd (let same : entry ≡ e = cc in let w = ap (λ (o : Entry V). o.written) same in cc);
+              seen = λ u e is no'. absurd (cc (t.grown.first));
               holds = λ u is. record { above = omega arith; sees = t.sees won ok };
               wins = λ v' is. absurd (never_won k v v' is);
             }
