@@ -21,4 +21,4 @@ module _ {X : Type 0} (flaw : X → Option Flaw) where
 module _ {V : Type 0} where
   pub all_fair_from : (last key : ℕ) (rows : List (Row V)) → first_bad (row_flaw last) key rows ≡ Ok tt → all_fair last rows ≡ true
   all_fair_from last key [] ok = refl
-  all_fair_from last key (row ∷ rows) ok = let ih = all_fair_from last (key + 1) rows in grind (arith, nat_tests)
+  all_fair_from last key (row ∷ rows) ok = grind (arith, nat_tests, all_fair_from last (key + 1) rows)

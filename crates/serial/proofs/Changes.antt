@@ -27,12 +27,12 @@ module _ {V : Type 0} where
       let same : r ≡ row = cc in
       let one = ap (λ (o : Row V). held_one o) same in
       omega arith
-  held_set (r ∷ rows) (suc k) row new is = let h = held_set rows k row new is in omega arith
+  held_set (r ∷ rows) (suc k) row new is = omega (arith, held_set rows k row new is)
 
   module _ {k : ℕ} {x : Option V} {row : Row V} {us : List (Transaction V)} {seats : ℕ → Seat V} {won : Option (V × ℕ)} (ok : KeyOk k x row us seats won) where
     -- Whoever has an unsettled write of the key is its holder.
     pub holds_it : (p : ℕ) → is_place p ≡ true → is_some (pending_write k (seats p).live) ≡ true → row.holder ≡ p
-    holds_it p at is = let h = (ok.stakes p at).owner ∙ is in grind (arith, nat_tests)
+    holds_it p at is = grind (arith, nat_tests, (ok.stakes p at).owner ∙ is)
 
     -- A winner is its holder.
     pub winner_holds : (w : V × ℕ) → won ≡ Some w → (is_place row.holder ≡ true) × (unsettled_write k (seats row.holder).live ≡ Some w.0)
@@ -44,7 +44,7 @@ module _ {V : Type 0} where
 
     -- A row that nobody holds has no winner.
     pub free_won : row.holder ≡ 0 → won ≡ None
-    free_won free = absent won (λ w is. let h = winner_holds w is in let r = place_range row.holder h.0 in omega arith)
+    free_won free = absent won (λ w is. let h = winner_holds w is in omega (arith, place_range row.holder h.0))
 
     -- Nor has one whose holder has not decided.
     pub loser_won : (seats row.holder).live.decided ≡ false → won ≡ None

@@ -70,7 +70,7 @@ drop_none (j ∷ ks) (suc c) k at = drop_none ks c k at
 pub nth_among : (ks : List ℕ) (c k : ℕ) → slice_get ks c ≡ Some k → among k ks ≡ true
 nth_among [] c k at = cc
 nth_among (j ∷ ks) zero k at = let same : j ≡ k = cc in grind (arith, nat_tests)
-nth_among (j ∷ ks) (suc c) k at = let ih = nth_among ks c k at in grind (arith, nat_tests)
+nth_among (j ∷ ks) (suc c) k at = grind (arith, nat_tests, nth_among ks c k at)
 
 -- ---- entries
 
@@ -131,8 +131,7 @@ module _ {V : Type 0} where
   nth_keyed_none es c at = slice_get-map (λ (x : Entry V). x.key) es c ∙ ap (option_map (λ (x : Entry V). x.key)) at
 
   pub keyed_set : (es : List (Entry V)) (i : ℕ) (e e' : Entry V) → slice_get es i ≡ Some e → e'.key ≡ e.key → keyed (set es i e') ≡ keyed es
-  keyed_set es i e e' at same =
-      map-set (λ (x : Entry V). x.key) es i e' ∙ set_same (keyed es) i e'.key (nth_keyed es i e at ∙ ap (λ (k : ℕ). Some k) (sym same))
+  keyed_set es i e e' at same = map-set (λ (x : Entry V). x.key) es i e' ∙ set_same (keyed es) i e'.key (nth_keyed es i e at ∙ ap (λ (k : ℕ). Some k) (sym same))
 
   -- an entry that stands behind another has another key
   behind : (a : Entry V) (es : List (Entry V)) (c : ℕ) (e : Entry V) → Apart (keyed (a ∷ es)) → slice_get es c ≡ Some e → eqb a.key e.key ≡ false

@@ -84,8 +84,7 @@ module _ {V : Type 0} (start : List V) (es : List (Event V)) (st : Store V) (i :
 
   -- The unsettled write of a key is what its row waits for.
   open_none : (k : ℕ) (row : Row V) → RowOk k row None → unsettled k es ≡ None
-  open_none k row ok =
-      first_none (λ p. unsettled_write k (live p es)) 64 (λ p low high. absent _ (λ v is. cc ((ok.stakes p (grind (arith, nat_tests))).wins v is)))
+  open_none k row ok = first_none (λ p. unsettled_write k (live p es)) 64 (λ p low high. absent _ (λ v is. cc ((ok.stakes p (grind (arith, nat_tests))).wins v is)))
 
   open_some : (k : ℕ) (row : Row V) (w : V × ℕ) → RowOk k row (Some w) → unsettled k es ≡ Some w.0
   open_some k row w ok =
@@ -161,10 +160,8 @@ all_length places many = omega (arith, length-append (map freed (take 64 places)
 
 freed_place : (places : List Place) (p : ℕ) → 64 ≤ length places → is_place p ≡ true → (place_at (all_freed places) p).state ≡ 0
 freed_place places p many at =
-    let r = place_range p at in
-    let n = freed_length places many in
     ap (λ (o : Place). o.state)
-    (get_or-append (map freed (take 64 places)) (drop 64 places) blank (p - 1) (omega arith)
+    (get_or-append (map freed (take 64 places)) (drop 64 places) blank (p - 1) (omega (arith, place_range p at, freed_length places many))
     ∙ get_or-map freed (take 64 places) (p - 1) blank)
 
 module _ {V : Type 0} where
@@ -211,9 +208,8 @@ module _ {V : Type 0} where
       where
         key : (k : ℕ) (row : Row V) → slice_get m.rows k ≡ Some row → row.holder ≡ 0 → KeyOk k (slice_get (values_of m) k) row [] (seat_of clean []) None
         key k row is free =
-            let f = fair_at m.last m.rows k row sound.rows is in
             record {
-              fair = grind (arith, nat_tests);
+              fair = grind (arith, nat_tests, fair_at m.last m.rows k row sound.rows is);
               stands = λ τ from. slice_get-map value_of m.rows k ∙ ap (option_map value_of) is;
               quiet = tt;
               sees = tt;

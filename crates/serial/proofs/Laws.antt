@@ -33,9 +33,7 @@ same_places : (p : ℕ) (places : List Place) → OwnPlace p places places
 same_places p places = (λ i apart. refl, refl)
 
 put_places : (p : ℕ) (places : List Place) (pl : Place) → is_place p ≡ true → OwnPlace p places (put_place places p pl)
-put_places p places pl at =
-    let r = place_range p at in
-    (λ i apart. nth_set_other places (p - 1) i pl (λ same. apart (omega arith)), length-set places (p - 1) pl)
+put_places p places pl at = (λ i apart. nth_set_other places (p - 1) i pl (λ same. apart (omega (arith, place_range p at))), length-set places (p - 1) pl)
 
 module _ {V : Type 0} where
   -- ---- faults that lose nothing
@@ -180,8 +178,7 @@ module _ {V : Type 0} where
     fine_turn f code rule accepted level single =
         by_first code 0 (λ r. by_turn st call f (turning st.tables.places (place_of call) rule r)) (λ fault. refl)
         (λ pl h.
-        let none = level (rule pl).0 in
-        accepts st _ call _ (accepted _) (reaches st _ _ _ (put_places _ _ _ h.place) (same_sheets _ _) (same_rows _) (omega arith)) (single _ _))
+        accepts st _ call _ (accepted _) (reaches st _ _ _ (put_places _ _ _ h.place) (same_sheets _ _) (same_rows _) (omega (arith, level (rule pl).0))) (single _ _))
 
     -- Calls that look at the home.
     fine_entry : {A : Type 0} (f : A → Event V) (code key : ℕ) (rule : Place → Did V A)
@@ -276,13 +273,11 @@ module _ {V : Type 0} where
     cursor_low : (e : Entry V) → at_cursor st.tables.entries (place_of call) pl ≡ Some e → cursor_of pl < used_of pl
     cursor_low e is =
         let low = slice_get_within _ (cursor_of pl) e is in
-        let size = sheet_length (place_of call) (used_of pl) st.tables.entries h.place (omega arith) h.long in
-        omega arith
+        omega (arith, sheet_length (place_of call) (used_of pl) st.tables.entries h.place (omega arith) h.long)
 
     cursor_past : at_cursor st.tables.entries (place_of call) pl ≡ None → cursor_of pl ≡ used_of pl
     cursor_past is =
-        let size = sheet_length (place_of call) (used_of pl) st.tables.entries h.place (omega arith) h.long in
-        grind (arith, slice_get_cases (sheet (place_of call) (used_of pl) st.tables.entries) (cursor_of pl))
+        grind (arith, slice_get_cases (sheet (place_of call) (used_of pl) st.tables.entries) (cursor_of pl), sheet_length (place_of call) (used_of pl) st.tables.entries h.place (omega arith) h.long)
 
     goes_to : (new : Place) → slice_get (put_place st.tables.places (place_of call) new) (place_of call - 1) ≡ Some new
     goes_to new = nth_set_same st.tables.places (place_of call - 1) new h.was
@@ -293,8 +288,7 @@ module _ {V : Type 0} where
         → Handled st (record { tables = tables home (put_place st.tables.places (place_of call) (onward pl)) entries; counter = st.counter })
         (place_of call) (left_after pl)
     handles e is home entries others =
-        let low = cursor_low e is in
-        record { place = pl; was = h.was; goes = goes_to (onward pl); counted = omega arith; others = others }
+        record { place = pl; was = h.was; goes = goes_to (onward pl); counted = omega (arith, cursor_low e is); others = others }
 
   -- ---- renew
 

@@ -186,9 +186,7 @@ module _ {V : Type 0} where
           writes_after
 
       only_here : OnlyAt p st.tables.entries entries_after
-      only_here q n is' apart few =
-          let l = limits frozen e is in
-          sheet_other p q (cursor_of here) n st.tables.entries longer at is' apart (omega arith) few
+      only_here q n is' apart few = sheet_other p q (cursor_of here) n st.tables.entries longer at is' apart (omega (arith, limits frozen e is)) few
 
       seats_after : Moves (seat_of st es) (seat_of after_state (did_renew p left ∷ es)) p (seat_in p (onward here) entries_after (live p es))
       seats_after =
@@ -234,8 +232,7 @@ module _ {V : Type 0} where
               subst (LeaseOk e.key (x e.key) new (serial_order es) (onward_seat sheet_after)) one (lease_after ok))
 
           go : KeyWas None → KeyNow None
-          go ok =
-              key_longer r seats_after (subst StakeNow (sym sheet_same) (stake ok)) ok
+          go ok = key_longer r seats_after (subst StakeNow (sym sheet_same) (stake ok)) ok
 
       inv_longer : Inv x (did_renew p left ∷ es) after_state
       inv_longer =

@@ -37,7 +37,7 @@ nth_set xs i j v = grind (arith, gets, elements, nat_tests, slice_get_cases xs j
 
 pub among_append : (k : ℕ) (xs ys : List ℕ) → among k (xs ++ ys) ≡ (among k xs || among k ys)
 among_append k [] ys = refl
-among_append k (x ∷ xs) ys = let ih = among_append k xs ys in grind (arith, nat_tests)
+among_append k (x ∷ xs) ys = grind (arith, nat_tests, among_append k xs ys)
 
 pub among_noted : (k j : ℕ) (ks : List ℕ) → among k (noted j ks) ≡ (eqb j k || among k ks)
 among_noted k j ks = grind (arith, nat_tests, among_append k ks (j ∷ []))
@@ -254,8 +254,7 @@ module _ {V : Type 0} where
 
   pub quiet_keeps : (k : ℕ) (x : Option V) (t : Transaction V) (us : List (Transaction V)) → Quiet k t.ops → Keeps k x t us
   quiet_keeps k x t [] quiet = tt
-  quiet_keeps k x t (u ∷ us) quiet =
-      (quiet_keeps k x t us quiet, λ late saw. subst (λ (o : Option V). Sees k o u.ops) (sym (quiet_all k x t us quiet)) saw)
+  quiet_keeps k x t (u ∷ us) quiet = (quiet_keeps k x t us quiet, λ late saw. subst (λ (o : Option V). Sees k o u.ops) (sym (quiet_all k x t us quiet)) saw)
 
   pub skip_keeps : (k : ℕ) (x : Option V) (t : Transaction V) (us : List (Transaction V)) → AfterSkip k t us → Keeps k x t us
   skip_keeps k x t [] skip = tt
@@ -269,8 +268,7 @@ module _ {V : Type 0} where
 
   all_before_insert : (t : Transaction V) (us : List (Transaction V)) (w : Transaction V) → before t w ≡ true → AllBefore us w → AllBefore (insert t us) w
   all_before_insert t [] w one all = (one, tt)
-  all_before_insert t (u ∷ us) w one all =
-      cond_both (before t u) _ _ (λ new. AllBefore new w) (λ _. (all.0, all_before_insert t us w one all.1)) (λ _. (one, all))
+  all_before_insert t (u ∷ us) w one all = cond_both (before t u) _ _ (λ new. AllBefore new w) (λ _. (all.0, all_before_insert t us w one all.1)) (λ _. (one, all))
 
   pub sorted_insert : (t : Transaction V) (us : List (Transaction V)) → Sorted us → Newest t us → Sorted (insert t us)
   sorted_insert t [] sorted newest = (tt, tt)

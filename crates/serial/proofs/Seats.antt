@@ -54,14 +54,11 @@ by_entered code places n p key P refusal rule =
 -- ---- places
 
 pub place_same : (ps : List Place) (p : ℕ) (pl : Place) → is_place p ≡ true → 64 ≤ length ps → place_at (put_place ps p pl) p ≡ pl
-place_same ps p pl is many = let r = place_range p is in get_or-set_same ps (p - 1) pl blank (omega arith)
+place_same ps p pl is many = get_or-set_same ps (p - 1) pl blank (omega (arith, place_range p is))
 
 pub place_other : (ps : List Place) (p q : ℕ) (pl : Place) → is_place p ≡ true → is_place q ≡ true → (q ≡ p → ⊥)
     → place_at (put_place ps p pl) q ≡ place_at ps q
-place_other ps p q pl is is' apart =
-    let r = place_range p is in
-    let r' = place_range q is' in
-    get_or-set_other ps (p - 1) (q - 1) pl blank (omega arith)
+place_other ps p q pl is is' apart = get_or-set_other ps (p - 1) (q - 1) pl blank (omega (arith, place_range p is, place_range q is'))
 
 module _ {V : Type 0} where
   -- ---- sheets
@@ -84,7 +81,7 @@ module _ {V : Type 0} where
       sheet_is q n (put_entry xs p at e)
       ∙ elim (cases_lt p q) [
         | inl before ↦ let r = place_range p is in ap (take n) (drop-set-lt (base_of q) xs (base_of p + at) e (omega arith))
-        | inr after ↦ let r = place_range q is' in part_below (base_of q) n (base_of p + at) xs e (omega arith)
+        | inr after ↦ part_below (base_of q) n (base_of p + at) xs e (omega (arith, place_range q is'))
       ]
       ∙ sym (sheet_is q n xs)
 
@@ -99,19 +96,14 @@ module _ {V : Type 0} where
   pub sheet_push : (p n : ℕ) (xs : List (Entry V)) (e : Entry V) → is_place p ≡ true → n < 16 → 1024 ≤ length xs
       → sheet p (n + 1) (put_entry xs p n e) ≡ sheet p n xs ++ (e ∷ [])
   sheet_push p n xs e is few long =
-      let r = place_range p is in
-      let d = length-drop (base_of p) xs in
       sheet_is p (n + 1) (put_entry xs p n e)
       ∙ ap (λ k. take k (drop (base_of p) (put_entry xs p n e))) (add-one n)
       ∙ ap (take (suc n)) (drop-set-add (base_of p) xs n e)
-      ∙ take-suc-set (drop (base_of p) xs) n e (omega arith)
+      ∙ take-suc-set (drop (base_of p) xs) n e (omega (arith, place_range p is, length-drop (base_of p) xs))
       ∙ ap (λ (es : List (Entry V)). es ++ (e ∷ [])) (sym (sheet_is p n xs))
 
   pub sheet_length : (p n : ℕ) (xs : List (Entry V)) → is_place p ≡ true → n ≤ 16 → 1024 ≤ length xs → length (sheet p n xs) ≡ n
-  sheet_length p n xs is few long =
-      let r = place_range p is in
-      let d = length-drop (base_of p) xs in
-      ap length (sheet_is p n xs) ∙ length-take-le n (drop (base_of p) xs) (omega arith)
+  sheet_length p n xs is few long = ap length (sheet_is p n xs) ∙ length-take-le n (drop (base_of p) xs) (omega (arith, place_range p is, length-drop (base_of p) xs))
 
   pub sheet_none : (p : ℕ) (xs : List (Entry V)) → sheet p 0 xs ≡ []
   sheet_none p xs = sheet_is p 0 xs

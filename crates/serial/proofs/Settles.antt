@@ -109,7 +109,7 @@ module _ {V : Type 0} where
         }
       where
         nobody : (q : ℕ) → is_place q ≡ true → eqb new.holder q ≡ false
-        nobody q is = let range = place_range q is in grind (arith, nat_tests)
+        nobody q is = grind (arith, nat_tests, place_range q is)
 
         here : Stake k x new us None p n
         here = stake_absent (ap is_some closed) (nobody p at) (λ u e is unwritten. cc)

@@ -295,8 +295,7 @@ module _ {V : Type 0} where
         (f.0, (refl, grind (arith, slice_get_cases (sheet p (used_of here) st.tables.entries) (cursor_of here)))))
         (λ en e is.
         let f = progress en in
-        let low = slice_get_within (sheet p (used_of here) st.tables.entries) (cursor_of here) e is in
-        (f.0, omega arith))
+        (f.0, omega (arith, slice_get_within (sheet p (used_of here) st.tables.entries) (cursor_of here) e is)))
 
   pub in_turn : (x : ℕ → Option V) (es : List (Event V)) (st : Store V) → Inv x es st → Runs es st → (call : Call V) → InTurn (stepped st call).event es
   unfolding stepped read_call write_call renew_call freeze_turn abort_turn decide_turn

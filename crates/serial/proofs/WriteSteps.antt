@@ -62,7 +62,7 @@ module _ {V : Type 0} where
 
     -- An undecided transaction has won nothing.
     never_won : (k : ℕ) (v v' : V) → unsettled_write k (doing (writes k v) (live p es)) ≡ Some v' → ⊥
-    never_won k v v' is = let d = (won_open k (doing (writes k v) (live p es)) v' is).0 in grind (arith, nat_tests)
+    never_won k v v' is = grind (arith, nat_tests, (won_open k (doing (writes k v) (live p es)) v' is).0)
 
     -- What the writes of the sheet are after a write.
     writes_after : (k : ℕ) (v : V) (sh : List (Entry V)) (e : Entry V) {used : ℕ} → write_of e ≡ Some v → Grown k now_seat sh e used
