@@ -19,7 +19,7 @@ use Rattle.serial.specs.Transactions.{Transaction, among, deciding_now, insert, 
 use Rattle.serial.proofs.Seats.{by_entered, place_at}
 use Rattle.serial.proofs.Keys.{found}
 use Rattle.serial.proofs.Run.{Newest, Ordered, Quiet, Sees, AfterSkip, all_insert, along, along_skip, along_unwritten, along_written, ordered, see_insert, quiet_keeps, skip_keeps, quiet_value, sees_skip, sorted_insert, value_upto, write_after, write_before, open_is_last, never_written}
-use Rattle.serial.proofs.Invariant.{Busy, HoldOk, Inv, KeyOk, Moves, Seat, Seated, Stake, ahead, bound, seat_of, standing, undecided, void_moves, wrote, won_open, all_moved, won_moved, met}
+use Rattle.serial.proofs.Invariant.{Busy, HoldOk, Inv, KeyOk, Moves, Seat, Seated, Stake, ahead, bound, seat_of, standing, undecided, void_moves, wrote, won_open, all_moved, won_moved, met, busy_stays}
 use Rattle.serial.proofs.Moves.{inv_refused, moved, moved_state}
 use Rattle.serial.proofs.Turns.{same_entries}
 use Rattle.serial.proofs.Changes.{holds_it, loser_won}
@@ -233,16 +233,7 @@ module _ {V : Type 0} where
       seated_decided =
           record {
             free = λ no'. cc;
-            busy = λ _. record {
-              few = busy.few;
-              within = omega arith;
-              sized = busy.sized;
-              keys = busy.keys;
-              writes = busy.writes;
-              decided = refl;
-              handled = unsettled_yet busy frozen;
-              passed = λ frozen' j e below is unwritten. absurd (omega arith);
-            };
+            busy = λ _. busy_stays busy (moved_to 4 here) true _ refl (omega (arith, busy)) refl (unsettled_yet busy frozen) (λ frozen' j e below is unwritten. absurd (omega arith));
           }
 
       decided : Inv x (event ∷ es) next_state

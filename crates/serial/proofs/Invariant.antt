@@ -64,6 +64,23 @@ module _ {V : Type 0} {s : Seat V} (b : Busy s) where
   pub wrote : (k : ℕ) (e : Entry V) {c : Bool} → found k s.sheet ≡ Some e → e.written ≡ c → last_write k s.live.ops ≡ cond c (Some e.value) None
   wrote k e is mark = b.writes k e is ∙ ap (λ c. cond c (Some e.value) None) mark
 
+  -- The place stays busy with its sheet and its operations, where its numbers are in order.
+  pub busy_stays : (pl : Place) (decided : Bool) (handled : ℕ) → pl.used ≡ s.place.used → pl.cursor ≤ pl.used
+      → decided ≡ eqb pl.state 4 → handled ≡ cond (leb 3 pl.state) pl.cursor 0
+      → (pl.state ≡ 2 → (i : ℕ) (e : Entry V) → i < pl.cursor → slice_get s.sheet i ≡ Some e → e.written ≡ false → pl.ts ≤ e.rts)
+      → Busy (record { place = pl; sheet = s.sheet; live = record { ops = s.live.ops; decided = decided; handled = handled } })
+  busy_stays pl decided handled used within is_decided is_handled passed =
+      record {
+        few = omega arith;
+        within = within;
+        sized = b.sized ∙ sym used;
+        keys = b.keys;
+        writes = b.writes;
+        decided = is_decided;
+        handled = is_handled;
+        passed = passed;
+      }
+
 -- ---- a key
 
 module _ {V : Type 0} where

@@ -245,15 +245,7 @@ module _ {V : Type 0} where
             moves = seats_after;
             seated = subst (λ (sh : List (Entry V)). Seated (onward_seat sh)) (sym sheet_same) seated_after;
             key = key_after;
-            others = λ j apart. record {
-              write = refl;
-              decided = refl;
-              undecided = λ u. u;
-              entry = ap (found j) sheet_same ∙ now_found.1 j apart;
-              later = omega arith;
-              same = λ _. refl;
-              sees = λ y h. h;
-            };
+            others = λ j apart. record { write = refl; decided = refl; undecided = λ u. u; entry = ap (found j) sheet_same ∙ now_found.1 j apart; later = omega arith; same = λ _. refl; sees = λ y h. h };
             fresh = λ j apart. refl;
           })
 

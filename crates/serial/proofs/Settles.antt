@@ -19,7 +19,7 @@ use Rattle.serial.specs.Transactions.{Live, Transaction, among, nothing_done, is
 use Rattle.serial.proofs.Run.{value_upto}
 use Rattle.serial.proofs.Seats.{place_at, place_range}
 use Rattle.serial.proofs.Keys.{among_drop, among_here, apart_past, drop_none, keys_apart, nth_found, nth_keyed, nth_keyed_none}
-use Rattle.serial.proofs.Invariant.{Busy, Inv, KeyOk, Moves, Seat, Seated, Stake, bound, by_place, seat_of, standing, undecided, all_moved, its_apart, wrote, KeyIn}
+use Rattle.serial.proofs.Invariant.{Busy, Inv, KeyOk, Moves, Seat, Seated, Stake, bound, by_place, seat_of, standing, undecided, all_moved, its_apart, wrote, KeyIn, busy_stays}
 use Rattle.serial.proofs.Moves.{Kept, alike_ok, entry_kept, inv_moves, inv_refused, moved, moved_state, seat_in}
 use Rattle.serial.proofs.Changes.{holds_none, inv_changes, loser_won, with_row, lease_kept, stake_absent}
 use Rattle.serial.proofs.Turns.{same_entries}
@@ -196,16 +196,7 @@ module _ {V : Type 0} where
           busy = λ _.
               let b = busy in
               let low = slice_get_within (sheet p (used_of here) entries) (cursor_of here) e is in
-              record {
-                few = b.few;
-                within = omega arith;
-                sized = b.sized;
-                keys = b.keys;
-                writes = b.writes;
-                decided = b.decided;
-                handled = grind (arith, nat_tests);
-                passed = λ frozen j e' below is' unwritten. grind (arith, nat_tests);
-              };
+              busy_stays b (onward here) _ _ refl (omega arith) b.decided (grind (arith, nat_tests)) (λ frozen j e' below is' unwritten. grind (arith, nat_tests));
         }
 
         onward_moves : (home : Meaning V) → Moves (seat_of st es) (seat_of (moved_state st home st.counter p (onward here) entries) (event ∷ es)) p (seat_in p (onward here) entries then_live)
@@ -254,15 +245,7 @@ module _ {V : Type 0} where
                         (onward_moves (with_row st.tables.home e.key new)) old (owed won old)
                         (open_past now e.key next_key) (grind (arith, nat_tests)),
                   );
-                  others = λ j apart. record {
-                    write = open_other now e.key next_key j apart;
-                    decided = refl;
-                    undecided = λ u. u;
-                    entry = refl;
-                    later = omega arith;
-                    same = λ _. refl;
-                    sees = λ y h. h;
-                  };
+                  others = λ j apart. record { write = open_other now e.key next_key j apart; decided = refl; undecided = λ u. u; entry = refl; later = omega arith; same = λ _. refl; sees = λ y h. h };
                   fresh = λ j apart. refl;
                 })
 

@@ -13,8 +13,8 @@ use Rattle.serial.specs.Events.{Event, Store, did_abort, did_begin, did_freeze, 
 use Rattle.serial.specs.Transactions.{Live, nothing_done, is_some, live, pending_write, unsettled_write}
 use Rattle.serial.proofs.Seats.{place_at, sheet_none}
 use Rattle.serial.proofs.Keys.{found, keyed}
-use Rattle.serial.proofs.Invariant.{Busy, Inv, seat_of, undecided}
-use Rattle.serial.proofs.Moves.{OnlyAt, Plain, alike_ok, inv_moves, inv_refused, moved_state, seat_in, turn_kept}
+use Rattle.serial.proofs.Invariant.{Inv, undecided, busy_stays}
+use Rattle.serial.proofs.Moves.{OnlyAt, Plain, alike_ok, inv_moves, inv_refused, moved_state, turn_kept}
 
 module _ {V : Type 0} where
   pub same_entries : (p : ℕ) (entries : List (Entry V)) → OnlyAt p entries entries
@@ -26,20 +26,6 @@ module _ {V : Type 0} where
     abbrev here : Place
     here = place_at st.tables.places p
 
-    busy_turned : (s : ℕ) → leb 2 s && leb s 3 ≡ true → undecided here ≡ true → Busy (seat_of st es p)
-        → Busy (seat_in p (moved_to s here) st.tables.entries (live p es))
-    busy_turned s range was b =
-        record {
-          few = b.few;
-          within = omega arith;
-          sized = b.sized;
-          keys = b.keys;
-          writes = b.writes;
-          decided = grind (arith, nat_tests);
-          handled = grind (arith, nat_tests);
-          passed = λ frozen j e below is unwritten. absurd (omega arith);
-        }
-
     turned : (e : Event V) → Plain es e → ((q : ℕ) → live q (e ∷ es) ≡ live q es) → (s : ℕ) → leb 2 s && leb s 3 ≡ true → undecided here ≡ true
         → Inv x (e ∷ es) (moved_state st st.tables.home st.counter p (moved_to s here) st.tables.entries)
     turned e plain same s range was =
@@ -48,7 +34,12 @@ module _ {V : Type 0} where
         (alike_ok at
         (λ k. record { write = refl; decided = refl; undecided = λ _. was; entry = refl; later = omega arith; same = λ _. refl; sees = λ y h. h })
         (λ k. refl)
-        (record { free = λ no'. grind (arith, nat_tests); busy = λ _. busy_turned s range was ((i.seated p at).busy (grind (arith, nat_tests))) }))
+        (record {
+          free = λ no'. grind (arith, nat_tests);
+          busy = λ _.
+              let b = (i.seated p at).busy (grind (arith, nat_tests)) in
+              busy_stays b (moved_to s here) _ _ refl (omega arith) (grind (arith, nat_tests)) (grind (arith, nat_tests)) (λ frozen j e below is unwritten. absurd (omega arith));
+        }))
 
     -- A refusal by 2 or 5 turns the place to losing.
     pub inv_lost : (call : Call V) (fault : Fault) → undecided here ≡ true

@@ -64,14 +64,23 @@ module _ {V : Type 0} where
     never_won : (k : ℕ) (v v' : V) → unsettled_write k (doing (writes k v) (live p es)) ≡ Some v' → ⊥
     never_won k v v' is = grind (arith, nat_tests, (won_open k (doing (writes k v) (live p es)) v' is).0)
 
-    -- What the writes of the sheet are after a write.
-    writes_after : (k : ℕ) (v : V) (sh : List (Entry V)) (e : Entry V) {used : ℕ} → write_of e ≡ Some v → Grown k now_seat sh e used
-        → (j : ℕ) (f : Entry V) → found j sh ≡ Some f → last_write j (writes k v ∷ (live p es).ops) ≡ write_of f
-    writes_after k v sh e is-v g j f is =
-        by_place (λ m. found m sh ≡ Some f → last_write m (writes k v ∷ (live p es).ops) ≡ write_of f) k j
-        (λ is. let same : e ≡ f = cc in grind (arith, nat_tests, ap write_of same))
-        (λ apart is. grind (arith, nat_tests, busy.writes j f (sym (g.others j apart) ∙ is)))
-        is
+    -- The place stays busy, where the sheet has the write.
+    busy_wrote : (k : ℕ) (v : V) (pl : Place) (sh : List (Entry V)) (e : Entry V) → pl.state ≡ 1 → pl.used ≤ 16 → pl.cursor ≤ pl.used → write_of e ≡ Some v
+        → Grown k now_seat sh e pl.used → Busy (record { place = pl; sheet = sh; live = doing (writes k v) (live p es) })
+    busy_wrote k v pl sh e open'' few within is-v g =
+        record {
+          few = few;
+          within = within;
+          sized = g.sized;
+          keys = g.keys;
+          writes = λ j f is.
+              by_place (λ m. found m sh ≡ Some f → last_write m (writes k v ∷ (live p es).ops) ≡ write_of f) k j
+              (λ is. let same : e ≡ f = cc in grind (arith, nat_tests, ap write_of same))
+              (λ apart is. grind (arith, nat_tests, busy.writes j f (sym (g.others j apart) ∙ is))) is;
+          decided = grind (arith, nat_tests, undone);
+          handled = grind (arith, nat_tests, unhandled);
+          passed = λ frozen j f below is no'. absurd (omega arith);
+        }
 
     -- ---- the first write of a key: the row is held
 
@@ -104,19 +113,6 @@ module _ {V : Type 0} where
         pub sees : (won : Option (V × ℕ)) → KeyIn x es st k row won → Sees k (Some row.value) (live p es).ops
 
       module _ (t : Taken) (free : row.holder ≡ 0) (is : slice_get st.tables.home.rows k ≡ Some row) where
-        busy_held : Busy new_seat
-        busy_held =
-            record {
-              few = t.few;
-              within = t.within;
-              sized = t.grown.sized;
-              keys = t.grown.keys;
-              writes = writes_after k v new_seat.sheet entry refl t.grown;
-              decided = busy.decided;
-              handled = busy.handled;
-              passed = λ frozen j e below is no'. absurd (omega arith);
-            }
-
         stake_here : (won : Option (V × ℕ)) → KeyIn x es st k row won → StakeIn x es k held_row None p new_seat
         stake_here won ok =
             record {
@@ -168,7 +164,7 @@ module _ {V : Type 0} where
               long = length-set st.tables.entries (base_of p + at') entry;
               was = is;
               moves = moves;
-              seated = record { free = λ no'. grind (arith, nat_tests); busy = λ _. busy_held };
+              seated = record { free = λ no'. grind (arith, nat_tests); busy = λ _. busy_wrote k v place' new_seat.sheet entry open' t.few t.within refl t.grown };
               key = λ won ok. (None, key_held won ok);
               others = λ j apart. record {
                 write = open_other j k v (live p es) unhandled apart;
@@ -258,19 +254,6 @@ module _ {V : Type 0} where
         grown_again : Grown k now_seat again_seat.sheet rewritten here.used
         grown_again = changed_sheet rewritten refl
 
-        busy_again : Busy again_seat
-        busy_again =
-            record {
-              few = busy.few;
-              within = busy.within;
-              sized = grown_again.sized;
-              keys = grown_again.keys;
-              writes = writes_after k v again_seat.sheet rewritten refl grown_again;
-              decided = busy.decided;
-              handled = busy.handled;
-              passed = λ frozen j f below is no'. absurd (omega arith);
-            }
-
         stake_again : (row : Row V) (won : Option (V × ℕ)) → StakeIn x es k row won p now_seat → StakeIn x es k row won p again_seat
         stake_again row won old =
             let was : is_some (pending_write k (live p es)) ≡ true = ap is_some (open_is_last k (live p es) unhandled ∙ last_known) in
@@ -294,7 +277,7 @@ module _ {V : Type 0} where
             (λ q m is' apart few. sheet_other p q n m st.tables.entries rewritten at is' apart room_known few)
             (grind (arith, nat_tests)) (λ q apart. grind (arith, nat_tests))
             (record {
-              seated = record { free = λ no'. grind (arith, nat_tests); busy = λ _. busy_again };
+              seated = record { free = λ no'. grind (arith, nat_tests); busy = λ _. busy_wrote k v here again_seat.sheet rewritten open' busy.few busy.within refl grown_again };
               stakes = stakes_but x es st at k (λ row won _ ok. stake_again row won (ok.stakes p at)) alike_again;
               wins = λ j. ap (λ b. when b (pending_write j again)) undone ∙ sym (no_win x es st p i at open' j);
               fresh = λ j is was. ap (among j) (known_keys k (keys_of (live p es).ops) (met busy k at_key.2)) ∙ was;
