@@ -85,16 +85,15 @@ pub record Sought {V : Type 0} (k n : ℕ) (es : List (Entry V)) (i : ℕ) (e : 
 module _ {V : Type 0} where
   pub sought_some : (k n : ℕ) (es : List (Entry V)) (i : ℕ) (e : Entry V) → sought k n es ≡ Some (i, e) → Sought k n es i e
   sought_some k n [] i e is = cc
-  sought_some k n (a ∷ es) i e is = go (eqb a.key k) refl is (sought_some k (n + 1) es i e)
-    where
-      go : (b : Bool) → eqb a.key k ≡ b → cond b (Some (n, a)) (sought k (n + 1) es) ≡ Some (i, e)
-          → (sought k (n + 1) es ≡ Some (i, e) → Sought k (n + 1) es i e) → Sought k n (a ∷ es) i e
-      go true test at ih =
-          let both = some_pair_parts n i a e at in
-          record { past = 0; is = omega arith; here = cc; key = grind (arith, nat_tests); first = grind (arith, nat_tests) }
-      go false test at ih =
-          let r = ih at in
-          record { past = suc r.past; is = omega arith; here = r.here; key = r.key; first = grind (arith, nat_tests) }
+  sought_some k n (a ∷ es) i e is =
+      cond_both (eqb a.key k) _ _ (λ o. o ≡ Some (i, e) → Sought k n (a ∷ es) i e)
+      (λ test at.
+      let both = some_pair_parts n i a e at in
+      record { past = 0; is = omega arith; here = cc; key = grind (arith, nat_tests); first = grind (arith, nat_tests) })
+      (λ test at.
+      let r = sought_some k (n + 1) es i e at in
+      record { past = suc r.past; is = omega arith; here = r.here; key = r.key; first = grind (arith, nat_tests) })
+      is
 
   pub sought_found : (k : ℕ) (es : List (Entry V)) (i : ℕ) (e : Entry V) → sought k 0 es ≡ Some (i, e)
       → (slice_get es i ≡ Some e) × (e.key ≡ k) × (found k es ≡ Some e) × (i < length es)
@@ -133,14 +132,10 @@ module _ {V : Type 0} where
   pub keyed_set : (es : List (Entry V)) (i : ℕ) (e e' : Entry V) → slice_get es i ≡ Some e → e'.key ≡ e.key → keyed (set es i e') ≡ keyed es
   keyed_set es i e e' at same = map-set (λ (x : Entry V). x.key) es i e' ∙ set_same (keyed es) i e'.key (nth_keyed es i e at ∙ ap (λ (k : ℕ). Some k) (sym same))
 
-  -- an entry that stands behind another has another key
-  behind : (a : Entry V) (es : List (Entry V)) (c : ℕ) (e : Entry V) → Apart (keyed (a ∷ es)) → slice_get es c ≡ Some e → eqb a.key e.key ≡ false
-  behind a es c e apart at = grind (arith, nat_tests, apart.0, nth_among (keyed es) c e.key (nth_keyed es c e at))
-
   pub nth_found : (es : List (Entry V)) (c : ℕ) (e : Entry V) → Apart (keyed es) → slice_get es c ≡ Some e → found e.key es ≡ Some e
   nth_found [] c e apart at = cc
   nth_found (a ∷ es) zero e apart at = grind (arith, nat_tests)
-  nth_found (a ∷ es) (suc c) e apart at = rw (behind a es c e apart at) (nth_found es c e apart.1 at)
+  nth_found (a ∷ es) (suc c) e apart at = grind (arith, nat_tests, apart.0, nth_among (keyed es) c e.key (nth_keyed es c e at), nth_found es c e apart.1 at)
 
   -- an entry stored again under its key
   pub found_set : (es : List (Entry V)) (i : ℕ) (e e' : Entry V) → slice_get es i ≡ Some e → e'.key ≡ e.key → Apart (keyed es)
