@@ -1,5 +1,5 @@
 -- What is known of a row once a hold of it was granted: it can be written past its lease.
-use Rattle.std.proofs.Common.{◌≡◌, ℕ, ◌<◌, true, Some, Ok, sym, ap, ◌∙◌, arith}
+use Rattle.std.proofs.Common.{◌≡◌, ℕ, ◌<◌, true, Some, Ok, sym, arith}
 use Rattle.std.specs.List.{slice_get}
 use Rattle.std.proofs.lemmas.Bool.Decides.{nat_tests}
 use Rattle.home.specs.declared.row.Row.{Row}
@@ -12,17 +12,15 @@ use Rattle.home.proofs.Laws.{found_after, granted, granted_from, granted_place}
 
 module _ {V : Type 0} (m : Meaning V) (key place : ℕ) where
   -- its lease ends before the last timestamp, and the place is its holder
-  pub held_row : (held : Row V) → Sound m → changed m key (Hold place) ≡ grants held → (is_place place ≡ true) × (held.holder ≡ place) × (held.rts < m.last) × (slice_get (after m key (changed m key (Hold place))).rows key ≡ Some held)
+  pub held_row : (held : Row V) → Sound m → changed m key (Hold place) ≡ grants held
+      → (is_place place ≡ true) × (held.holder ≡ place) × (held.rts < m.last) × (slice_get (after m key (changed m key (Hold place))).rows key ≡ Some held)
   held_row held s is =
       let g = granted m key (Hold place) held is in
       let ok = fair_at m.last m.rows key g.0 s.rows g.1 in
-      (granted_place m key (Hold place) held is, grind (arith, nat_tests, g.2), grind (arith, nat_tests, g.2), ap (λ o. slice_get (after m key o).rows key) is ∙ found_after m key (Hold place) held is)
+      (granted_place m key (Hold place) held is, grind (arith, nat_tests, g.2), grind (arith, nat_tests, g.2), rw is (found_after m key (Hold place) held is))
 
   -- so the next timestamp is a number of the machine's
   pub hold_room : (lease : Lease) → Sound m → Ok lease ≡ answer lease_of place key (changed m key (Hold place)) → lease.rts < 9223372036854775807
   hold_room lease s is =
       let r = granted_from lease_of place key (changed m key (Hold place)) lease (sym is) in
-      let h = held_row r.0 s r.1 in
-      let e = ap (λ (l : Lease). l.rts) r.2 in
-      let z = s.ends in
-      omega (arith, h.2)
+      grind (arith, held_row r.0 s r.1)

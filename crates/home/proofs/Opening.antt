@@ -1,11 +1,10 @@
 -- A check that goes through the rows from the first, and what it has shown where it finds nothing.
-use Rattle.std.proofs.Common.{◌≡◌, ℕ, ◌+◌, ◌<◌, ◌≤◌, true, List, [], ◌∷◌, length, get_or, drop, Some, None, Ok, Option, sym, refl, ap, ◌∙◌, arith}
+use Rattle.std.proofs.Common.{◌≡◌, ℕ, ◌+◌, ◌<◌, ◌≤◌, true, List, [], ◌∷◌, length, get_or, drop, Ok, Option, sym, refl, ap, ◌∙◌, arith}
 use Rattle.std.proofs.lemmas.List.{drop_more, drop_all}
-use Rattle.std.proofs.lemmas.Bool.{and_from}
 use Rattle.std.proofs.lemmas.Bool.Decides.{nat_tests}
 use Rattle.home.specs.declared.row.Row.{Row}
 use Rattle.home.specs.declared.row.Flaw.{Flaw}
-use Rattle.home.specs.Meaning.{all_fair, fair}
+use Rattle.home.specs.Meaning.{all_fair}
 use Rattle.home.specs.Opening.{first_bad, row_flaw, unless_bad}
 
 module _ {X : Type 0} (flaw : X → Option Flaw) where
@@ -20,13 +19,6 @@ module _ {X : Type 0} (flaw : X → Option Flaw) where
   first_bad_all xs key past = ap (first_bad flaw key) (drop_all key xs past)
 
 module _ {V : Type 0} where
-  fair_none : (last : ℕ) (row : Row V) → row_flaw last row ≡ None → fair last row ≡ true
-  fair_none last row none = grind (arith, nat_tests)
-
-  by_flaw : (last key : ℕ) (row : Row V) (rows : List (Row V)) (found : Option Flaw) → row_flaw last row ≡ found → unless_bad key found (first_bad (row_flaw last) (key + 1) rows) ≡ Ok tt → (first_bad (row_flaw last) (key + 1) rows ≡ Ok tt → all_fair last rows ≡ true) → all_fair last (row ∷ rows) ≡ true
-  by_flaw last key row rows None is ok rest = and_from _ _ (fair_none last row is) (rest ok)
-  by_flaw last key row rows (Some flaw) is ok rest = absurd (let z : ◌≡◌ {A = ℕ} 0 1 = cc in omega arith)
-
   pub all_fair_from : (last key : ℕ) (rows : List (Row V)) → first_bad (row_flaw last) key rows ≡ Ok tt → all_fair last rows ≡ true
   all_fair_from last key [] ok = refl
-  all_fair_from last key (row ∷ rows) ok = by_flaw last key row rows _ refl ok (λ rest. all_fair_from last (key + 1) rows rest)
+  all_fair_from last key (row ∷ rows) ok = grind (arith, nat_tests, all_fair_from last (key + 1) rows)

@@ -1,18 +1,20 @@
 -- Steps that alter one row: what is owed for the key, and that all else stays.
-use Rattle.std.proofs.Common.{◌≡◌, ℕ, zero, suc, ◌+◌, ◌≤◌, Bool, true, false, cond, eqb, List, [], ◌∷◌, length, set, Some, None, Option, sym, refl, ap, ◌∙◌, subst, arith}
-use Rattle.std.specs.List.{slice_get, AllByRecursion as All}
+use Rattle.std.proofs.Common.{◌≡◌, ℕ, zero, suc, ◌+◌, ◌≤◌, true, false, cond, eqb, List, [], ◌∷◌, length, set, Some, None, Option, sym, ap, ◌∙◌, subst, arith}
+use Rattle.std.specs.List.{slice_get}
 use Rattle.std.proofs.lemmas.Bool.Decides.{nat_tests}
 use Rattle.home.specs.declared.row.Row.{Row}
+use Rattle.home.proofs.Laws.{nth_set_other, nth_set_same}
 use Rattle.home.specs.Meaning.{Meaning, is_place}
 use Rattle.coordinator.specs.declared.tables.Place.{Place}
 use Rattle.coordinator.specs.declared.tables.Entry.{Entry}
 use Rattle.serial.specs.Events.{Event, Store}
-use Rattle.serial.specs.Transactions.{Live, Transaction, among, frees, granted, is_some, keys_of, live, pending_write, puts, serial_order, when, unsettled_write}
-use Rattle.serial.specs.Serial.{Sorted, held_now}
-use Rattle.serial.proofs.Run.{nth_set_other, nth_set_same, over}
-use Rattle.serial.proofs.Seats.{length_put_place, place_range}
-use Rattle.serial.proofs.Invariant.{Alike, Inv, KeyOk, Moves, Seat, Seated, VoidOk, by_place, key_moves, seat_of, stake_alike, void_moves, won_alike}
-use Rattle.serial.proofs.Moves.{moved_state, seat_in, seated_moves}
+use Rattle.serial.specs.Transactions.{Live, Transaction, among, frees, granted, is_some, keys_of, live, pending_write, puts, serial_order, unsettled_write}
+use Rattle.serial.specs.Serial.{held_now}
+use Rattle.serial.proofs.Run.{absent}
+use Rattle.serial.proofs.Seats.{place_range}
+use Rattle.serial.proofs.Invariant.{Alike, Inv, KeyOk, Moves, Seat, Seated, by_place, key_moves, seat_of, stake_alike, void_moves, won_alike, won_open, KeyIn, LeaseOk, Stake, undecided}
+use Rattle.serial.proofs.Keys.{found}
+use Rattle.serial.proofs.Moves.{moved_state, seat_in, KeyThen, VoidThen, inv_then}
 
 -- One where the row is held.
 abbrev pub held_one : {V : Type 0} → Row V → ℕ
@@ -20,25 +22,17 @@ held_one row = cond (eqb row.holder 0) 0 1
 
 module _ {V : Type 0} where
   pub held_set : (rows : List (Row V)) (k : ℕ) (row new : Row V) → slice_get rows k ≡ Some row → held_now (set rows k new) + held_one row ≡ held_now rows + held_one new
-  held_set [] k row new is = absurd (let z : ◌≡◌ {A = ℕ} 0 1 = cc in omega arith)
+  held_set [] k row new is = cc
   held_set (r ∷ rows) zero row new is =
       let same : r ≡ row = cc in
       let one = ap (λ (o : Row V). held_one o) same in
       omega arith
-  held_set (r ∷ rows) (suc k) row new is = let h = held_set rows k row new is in omega arith
+  held_set (r ∷ rows) (suc k) row new is = omega (arith, held_set rows k row new is)
 
-  -- What is won is held.
-  pub won_open : (k : ℕ) (l : Live V) (v : V) → unsettled_write k l ≡ Some v → (l.decided ≡ true) × (pending_write k l ≡ Some v)
-  won_open k l v is = go l.decided is
-    where
-      go : (b : Bool) → when b (pending_write k l) ≡ Some v → (b ≡ true) × (pending_write k l ≡ Some v)
-      go true is = (refl, is)
-      go false is = absurd (let z : ◌≡◌ {A = ℕ} 0 1 = cc in omega arith)
-
-  module _ (k : ℕ) (x : Option V) (row : Row V) (us : List (Transaction V)) (seats : ℕ → Seat V) (won : Option (V × ℕ)) (ok : KeyOk k x row us seats won) where
+  module _ {k : ℕ} {x : Option V} {row : Row V} {us : List (Transaction V)} {seats : ℕ → Seat V} {won : Option (V × ℕ)} (ok : KeyOk k x row us seats won) where
     -- Whoever has an unsettled write of the key is its holder.
     pub holds_it : (p : ℕ) → is_place p ≡ true → is_some (pending_write k (seats p).live) ≡ true → row.holder ≡ p
-    holds_it p at is = let h = (ok.stakes p at).owner ∙ is in grind (arith, nat_tests)
+    holds_it p at is = grind (arith, nat_tests, (ok.stakes p at).owner ∙ is)
 
     -- A winner is its holder.
     pub winner_holds : (w : V × ℕ) → won ≡ Some w → (is_place row.holder ≡ true) × (unsettled_write k (seats row.holder).live ≡ Some w.0)
@@ -50,28 +44,27 @@ module _ {V : Type 0} where
 
     -- A row that nobody holds has no winner.
     pub free_won : row.holder ≡ 0 → won ≡ None
-    free_won free = go won refl
-      where
-        go : (o : Option (V × ℕ)) → won ≡ o → won ≡ None
-        go None is = is
-        go (Some w) is = absurd (let h = winner_holds w is in let r = place_range row.holder h.0 in omega arith)
+    free_won free = absent won (λ w is. let h = winner_holds w is in omega (arith, place_range row.holder h.0))
 
     -- Nor has one whose holder has not decided.
     pub loser_won : (seats row.holder).live.decided ≡ false → won ≡ None
-    loser_won loses = go won refl
-      where
-        go : (o : Option (V × ℕ)) → won ≡ o → won ≡ None
-        go None is = is
-        go (Some w) is =
-            absurd
-            (let h = winner_holds w is in
-            let o = won_open k (seats row.holder).live w.0 h.1 in
-            let z : ◌≡◌ {A = ℕ} 0 1 = cc in
-            omega arith)
+    loser_won loses = absent won (λ w is. let h = winner_holds w is in let o = won_open k (seats row.holder).live w.0 h.1 in cc)
 
     -- Where the row is held by another or by nobody, a place has no unsettled write of it.
     pub holds_none : (p : ℕ) → is_place p ≡ true → (row.holder ≡ p → ⊥) → is_some (pending_write k (seats p).live) ≡ false
-    holds_none p at apart = sym (ok.stakes p at).owner ∙ (grind (arith, nat_tests))
+    holds_none p at apart = sym (ok.stakes p at).owner ∙ grind (arith, nat_tests)
+
+  -- ---- places that do not hold the key
+
+  -- A lease within one that ends later.
+  pub lease_kept : {k : ℕ} {x : Option V} {row new : Row V} {us : List (Transaction V)} {s : Seat V} {e : Entry V} → LeaseOk k x row us s e → row.rts ≤ new.rts → LeaseOk k x new us s e
+  lease_kept o later = record { fair = o.fair; begins = o.begins; ends = omega arith; value = o.value; sees = o.sees }
+
+  -- Such a place has only its leases at stake.
+  pub stake_absent : {k : ℕ} {x : Option V} {new : Row V} {us : List (Transaction V)} {q : ℕ} {s : Seat V} → is_some (pending_write k s.live) ≡ false → eqb new.holder q ≡ false
+      → (undecided s.place ≡ true → (e : Entry V) → found k s.sheet ≡ Some e → e.written ≡ false → LeaseOk k x new us s e) → Stake k x new us None q s
+  stake_absent {k} {s = s} none nobody seen =
+      record { owner = nobody ∙ sym none; seen = seen; holds = λ u some. cc; wins = λ v win. cc (ap is_some (won_open k s.live v win).1) }
 
   abbrev pub with_row : Meaning V → ℕ → Row V → Meaning V
   with_row m k row = record { last = m.last; rows = set m.rows k row }
@@ -79,6 +72,9 @@ module _ {V : Type 0} where
   module _ (x : ℕ → Option V) (es : List (Event V)) (st : Store V) (e : Event V) (p : ℕ) (pl : Place) (entries : List (Entry V)) (l : Live V) (k : ℕ) (row new : Row V) where
     abbrev next_state : Store V
     next_state = moved_state st (with_row st.tables.home k new) st.counter p pl entries
+
+    abbrev KeyNext : ℕ → Row V → Type 0
+    KeyNext j r = KeyThen x es st e (with_row st.tables.home k new) p pl entries l j r
 
     abbrev here_seat : Seat V
     here_seat = seat_in p pl entries l
@@ -91,54 +87,30 @@ module _ {V : Type 0} where
       pub was : slice_get st.tables.home.rows k ≡ Some row
       pub moves : Moves (seat_of st es) (seat_of next_state (e ∷ es)) p here_seat
       pub seated : Seated here_seat
-      pub key : (won : Option (V × ℕ)) → KeyOk k (x k) row (serial_order es) (seat_of st es) won → (after : Option (V × ℕ)) × KeyOk k (x k) new (serial_order es) (seat_of next_state (e ∷ es)) after
+      pub key : (won : Option (V × ℕ)) → KeyIn x es st k row won → KeyNext k new
       pub others : (j : ℕ) → (j ≡ k → ⊥) → Alike j (seat_of st es p) here_seat
       pub fresh : (j : ℕ) → (j ≡ k → ⊥) → among j (keys_of l.ops) ≡ among j (keys_of (live p es).ops)
 
     pub inv_changes : Inv x es st → is_place p ≡ true → ChangeOk → Inv x (e ∷ es) next_state
     inv_changes i at ok =
-        record {
-          many = (let h = i.many in let g = length_put_place st.tables.places p pl in omega arith);
-          long = (let h = i.long in let g = ok.long in omega arith);
-          seated = seated_moves es (e ∷ es) st next_state p here_seat i.seated ok.moves ok.seated;
-          keys = λ j r is. subst (λ us. (won : Option (V × ℕ)) × KeyOk j (x j) r us (seat_of next_state (e ∷ es)) won) (sym ok.order) (each j r is);
-          voids = λ j is. subst (λ us. VoidOk j (x j) us (seat_of next_state (e ∷ es))) (sym ok.order) (none j is);
-          sorted = subst Sorted (sym ok.order) i.sorted;
-          numbered = subst (All (λ (t : Transaction V). t.number ≤ st.counter)) (sym ok.order) i.numbered;
-          limit = i.limit;
-          holds = (let h = i.holds in let c = ok.count in let s = held_set st.tables.home.rows k row new ok.was in omega arith);
-        }
+        inv_then x es st e (with_row st.tables.home k new) p pl entries l i ok.order ok.long ok.moves ok.seated each none (omega (arith, held_set st.tables.home.rows k row new ok.was))
       where
-        here : (r : Row V) → slice_get (set st.tables.home.rows k new) k ≡ Some r → (won : Option (V × ℕ)) × KeyOk k (x k) r (serial_order es) (seat_of next_state (e ∷ es)) won
-        here r is =
-            let s = nth_set_same st.tables.home.rows k new in
-            let w = ok.was in
-            let o : slice_get (set st.tables.home.rows k new) k ≡ Some new = s ∙ ap (λ (a : Option (Row V)). over a new) w in
-            let same : new ≡ r = cc in
+        each : (j : ℕ) (r : Row V) → slice_get (set st.tables.home.rows k new) j ≡ Some r → KeyNext j r
+        each j r is =
+            by_place (λ m. slice_get (set st.tables.home.rows k new) m ≡ Some r → KeyNext m r) k j
+            (λ is.
+            let same : new ≡ r = cc (nth_set_same st.tables.home.rows k new ok.was) in
             let old = i.keys k row ok.was in
-            subst (λ (a : Row V). (won : Option (V × ℕ)) × KeyOk k (x k) a (serial_order es) (seat_of next_state (e ∷ es)) won) same (ok.key old.0 old.1)
-
-        there : (j : ℕ) (r : Row V) → (j ≡ k → ⊥) → slice_get (set st.tables.home.rows k new) j ≡ Some r → (won : Option (V × ℕ)) × KeyOk j (x j) r (serial_order es) (seat_of next_state (e ∷ es)) won
-        there j r apart is =
-            let was = sym (nth_set_other st.tables.home.rows k j new apart) ∙ is in
-            let old = i.keys j r was in
-            let a = ok.others j apart in
-            (old.0, key_moves j (x j) r (serial_order es) (seat_of st es) (seat_of next_state (e ∷ es)) old.0 p here_seat at ok.moves (stake_alike j (x j) r (serial_order es) old.0 p (seat_of st es p) here_seat a (old.1.stakes p at)) (won_alike j (seat_of st es p) here_seat a) old.1)
-
-        each : (j : ℕ) (r : Row V) → slice_get (set st.tables.home.rows k new) j ≡ Some r → (won : Option (V × ℕ)) × KeyOk j (x j) r (serial_order es) (seat_of next_state (e ∷ es)) won
-        each j r is = by_place (λ m. slice_get (set st.tables.home.rows k new) m ≡ Some r → (won : Option (V × ℕ)) × KeyOk m (x m) r (serial_order es) (seat_of next_state (e ∷ es)) won) k j (here r) (λ apart. there j r apart) is
-
-        gone : slice_get (set st.tables.home.rows k new) k ≡ None → ⊥
-        gone is =
-            let s = nth_set_same st.tables.home.rows k new ∙ ap (λ (a : Option (Row V)). over a new) ok.was in
-            let z : ◌≡◌ {A = ℕ} 0 1 = cc in
-            omega arith
-
-        none : (j : ℕ) → slice_get (set st.tables.home.rows k new) j ≡ None → VoidOk j (x j) (serial_order es) (seat_of next_state (e ∷ es))
-        none j is =
-            by_place (λ m. slice_get (set st.tables.home.rows k new) m ≡ None → VoidOk m (x m) (serial_order es) (seat_of next_state (e ∷ es))) k j (λ is. absurd (gone is))
+            subst (KeyNext k) same (ok.key old.0 old.1))
             (λ apart is.
-            let was = sym (nth_set_other st.tables.home.rows k j new apart) ∙ is in
-            let old = i.voids j was in
-            void_moves j (x j) (serial_order es) (seat_of st es) (seat_of next_state (e ∷ es)) p here_seat at ok.moves (ok.fresh j apart ∙ old.fresh p at) old)
-            is
+            let old = i.keys j r (sym (nth_set_other st.tables.home.rows k j new apart) ∙ is) in
+            let a = ok.others j apart in
+            (old.0, key_moves ok.moves (stake_alike a (old.1.stakes p at)) (won_alike a) old.1)) is
+
+        none : (j : ℕ) → slice_get (set st.tables.home.rows k new) j ≡ None → VoidThen x es st e (with_row st.tables.home k new) p pl entries l j
+        none j is =
+            by_place (λ m. slice_get (set st.tables.home.rows k new) m ≡ None → VoidThen x es st e (with_row st.tables.home k new) p pl entries l m) k j
+            (λ is. absurd (cc (nth_set_same st.tables.home.rows k new ok.was)))
+            (λ apart is.
+            let old = i.voids j (sym (nth_set_other st.tables.home.rows k j new apart) ∙ is) in
+            void_moves ok.moves (ok.fresh j apart ∙ old.fresh p at) old) is

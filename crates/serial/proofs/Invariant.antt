@@ -6,18 +6,18 @@
 --   Inv ..                 all of it
 use Rattle.std.proofs.Common.{◌≡◌, ℕ, ◌+◌, ◌<◌, ◌≤◌, Bool, true, false, cond, ◌&&◌, ◌||◌, eqb, leb, ◌⊎◌, List, length, Some, None, Option, sym, refl, ap, ◌∙◌, subst, inl, inr, arith}
 use Rattle.std.specs.List.{slice_get, AllByRecursion as All}
-use Rattle.std.proofs.lemmas.Bool.Decides.{eqb_tells}
+use Rattle.std.proofs.lemmas.Bool.{cases_eq}
 use Rattle.home.specs.declared.row.Row.{Row}
 use Rattle.home.specs.Meaning.{is_place}
 use Rattle.coordinator.specs.declared.tables.Place.{Place}
 use Rattle.coordinator.specs.declared.tables.Entry.{Entry}
 use Rattle.coordinator.specs.Tables.{sheet, used_of}
 use Rattle.serial.specs.Events.{Event, Store}
-use Rattle.serial.specs.Transactions.{Live, Orderly, Transaction, among, frees, granted, nothing_done, is_some, keys_of, last_write, live, pending_write, puts, running, serial_order, unsettled_write}
+use Rattle.serial.specs.Transactions.{Live, Orderly, Transaction, among, frees, granted, nothing_done, is_some, keys_of, last_write, live, pending_write, puts, running, serial_order, unsettled_write, when}
 use Rattle.serial.specs.Serial.{Sorted, held_now}
 use Rattle.serial.proofs.Run.{AllSee, Sees, value_upto}
 use Rattle.serial.proofs.Seats.{place_at}
-use Rattle.serial.proofs.Keys.{found, keyed}
+use Rattle.serial.proofs.Keys.{found, keyed, Apart, keys_apart, found_among}
 
 -- ---- a place
 
@@ -51,6 +51,35 @@ pub record Busy {V : Type 0} (s : Seat V) : Type 0 where
 pub record Seated {V : Type 0} (s : Seat V) : Type 0 where
   pub free : engaged s.place ≡ false → s.live ≡ nothing_done
   pub busy : engaged s.place ≡ true → Busy s
+
+module _ {V : Type 0} {s : Seat V} (b : Busy s) where
+  -- The sheet has no key twice, and those that were met.
+  pub its_apart : Apart (keyed s.sheet)
+  its_apart = subst Apart (sym b.keys) (keys_apart s.live.ops)
+
+  pub met : (k : ℕ) {o : Option (Entry V)} → found k s.sheet ≡ o → among k (keys_of s.live.ops) ≡ is_some o
+  met k is = ap (among k) (sym b.keys) ∙ sym (found_among k s.sheet) ∙ ap is_some is
+
+  -- An entry's mark says whether the key was written.
+  pub wrote : (k : ℕ) (e : Entry V) {c : Bool} → found k s.sheet ≡ Some e → e.written ≡ c → last_write k s.live.ops ≡ cond c (Some e.value) None
+  wrote k e is mark = b.writes k e is ∙ ap (λ c. cond c (Some e.value) None) mark
+
+  -- The place stays busy with its sheet and its operations, where its numbers are in order.
+  pub busy_stays : (pl : Place) (decided : Bool) (handled : ℕ) → pl.used ≡ s.place.used → pl.cursor ≤ pl.used
+      → decided ≡ eqb pl.state 4 → handled ≡ cond (leb 3 pl.state) pl.cursor 0
+      → (pl.state ≡ 2 → (i : ℕ) (e : Entry V) → i < pl.cursor → slice_get s.sheet i ≡ Some e → e.written ≡ false → pl.ts ≤ e.rts)
+      → Busy (record { place = pl; sheet = s.sheet; live = record { ops = s.live.ops; decided = decided; handled = handled } })
+  busy_stays pl decided handled used within is_decided is_handled passed =
+      record {
+        few = omega arith;
+        within = within;
+        sized = b.sized ∙ sym used;
+        keys = b.keys;
+        writes = b.writes;
+        decided = is_decided;
+        handled = is_handled;
+        passed = passed;
+      }
 
 -- ---- a key
 
@@ -114,11 +143,18 @@ seat_of st es p =
       live = live p es;
     }
 
+-- What holds of a key of the home with its row, and what a place has at stake in it.
+abbrev pub KeyIn : {V : Type 0} → (ℕ → Option V) → List (Event V) → Store V → ℕ → Row V → Option (V × ℕ) → Type 0
+KeyIn x es st k row won = KeyOk k (x k) row (serial_order es) (seat_of st es) won
+
+abbrev pub StakeIn : {V : Type 0} → (ℕ → Option V) → List (Event V) → ℕ → Row V → Option (V × ℕ) → ℕ → Seat V → Type 0
+StakeIn x es k row won p s = Stake k (x k) row (serial_order es) won p s
+
 pub record Inv {V : Type 0} (x : ℕ → Option V) (es : List (Event V)) (st : Store V) : Type 0 where
   pub many : 64 ≤ length st.tables.places
   pub long : 1024 ≤ length st.tables.entries
   pub seated : (p : ℕ) → is_place p ≡ true → Seated (seat_of st es p)
-  pub keys : (k : ℕ) (row : Row V) → slice_get st.tables.home.rows k ≡ Some row → (won : Option (V × ℕ)) × KeyOk k (x k) row (serial_order es) (seat_of st es) won
+  pub keys : (k : ℕ) (row : Row V) → slice_get st.tables.home.rows k ≡ Some row → (won : Option (V × ℕ)) × KeyIn x es st k row won
   pub voids : (k : ℕ) → slice_get st.tables.home.rows k ≡ None → VoidOk k (x k) (serial_order es) (seat_of st es)
   pub sorted : Sorted (serial_order es)
   pub numbered : All (λ (t : Transaction V). t.number ≤ st.counter) (serial_order es)
@@ -139,11 +175,7 @@ pub record Good {V : Type 0} (x : ℕ → Option V) (es : List (Event V)) (st : 
 
 -- The place in question, or another.
 pub by_place : (P : ℕ → Type 0) (p q : ℕ) → P p → ((q ≡ p → ⊥) → P q) → P q
-by_place P p q here other = go (eqb_tells q p)
-  where
-    go : ((eqb q p ≡ true) × (q ≡ p)) ⊎ ((eqb q p ≡ false) × (q ≡ p → ⊥)) → P q
-    go (inl same) = subst P (sym same.1) here
-    go (inr apart) = other apart.1
+by_place P p q here other = elim (cases_eq q p) [ inl same ↦ subst P (sym same) here | inr apart ↦ other apart ]
 
 module _ {V : Type 0} where
   -- Nothing that counts for the key has changed, but that the timestamp may have grown.
@@ -156,18 +188,19 @@ module _ {V : Type 0} where
     pub same : s.live.decided ≡ true → n.place.ts ≡ s.place.ts
     pub sees : (y : Option V) → Sees k y s.live.ops → Sees k y n.live.ops
 
-  won_decided : (k : ℕ) (l : Live V) (v : V) → unsettled_write k l ≡ Some v → l.decided ≡ true
-  won_decided k l v is = go l.decided is
+  -- What is won is held.
+  pub won_open : (k : ℕ) (l : Live V) (v : V) → unsettled_write k l ≡ Some v → (l.decided ≡ true) × (pending_write k l ≡ Some v)
+  won_open k l v is = go l.decided is
     where
-      go : (b : Bool) → Rattle.serial.specs.Transactions.when b (pending_write k l) ≡ Some v → b ≡ true
-      go true is = refl
-      go false is = absurd (let z : ◌≡◌ {A = ℕ} 0 1 = cc in omega arith)
+      go : (b : Bool) → when b (pending_write k l) ≡ Some v → (b ≡ true) × (pending_write k l ≡ Some v)
+      go true is = (refl, is)
+      go false is = cc
 
-  pub won_alike : (k : ℕ) (s n : Seat V) → Alike k s n → unsettled_write k n.live ≡ unsettled_write k s.live
-  won_alike k s n a = let d = a.decided in let w = a.write in cc
+  pub won_alike : {k : ℕ} {s n : Seat V} → Alike k s n → unsettled_write k n.live ≡ unsettled_write k s.live
+  won_alike a = cc
 
-  pub stake_alike : (k : ℕ) (x : Option V) (row : Row V) (us : List (Transaction V)) (won : Option (V × ℕ)) (p : ℕ) (s n : Seat V) → Alike k s n → Stake k x row us won p s → Stake k x row us won p n
-  stake_alike k x row us won p s n a old =
+  pub stake_alike : {k : ℕ} {x : Option V} {row : Row V} {us : List (Transaction V)} {won : Option (V × ℕ)} {p : ℕ} {s n : Seat V} → Alike k s n → Stake k x row us won p s → Stake k x row us won p n
+  stake_alike {k} {s = s} a old =
       record {
         owner = old.owner ∙ ap is_some (sym a.write);
         seen = λ u e is unwritten.
@@ -175,10 +208,10 @@ module _ {V : Type 0} where
             record { fair = o.fair; begins = (let b = o.begins in let l = a.later in omega arith); ends = o.ends; value = o.value; sees = a.sees _ o.sees };
         holds = λ u is.
             let o = old.holds (a.undecided u) (sym (ap is_some a.write) ∙ is) in
-            record { above = (let b = o.above in let l = a.later in omega arith); sees = a.sees _ o.sees };
+            record { above = omega arith; sees = a.sees _ o.sees };
         wins = λ v is.
-            let was = sym (won_alike k s n a) ∙ is in
-            let t = a.same (won_decided k s.live v was) in
+            let was = sym (won_alike a) ∙ is in
+            let t = a.same (won_open k s.live v was).0 in
             old.wins v was ∙ ap (λ (m : ℕ). Some (v, m)) (sym t);
       }
 
@@ -187,10 +220,26 @@ module _ {V : Type 0} where
     pub here : next p ≡ n
     pub others : (q : ℕ) → is_place q ≡ true → (q ≡ p → ⊥) → next q ≡ seats q
 
-  module _ (k : ℕ) (x : Option V) (row : Row V) (us : List (Transaction V)) (seats next : ℕ → Seat V) (won : Option (V × ℕ)) (p : ℕ) (n : Seat V) where
-    -- A key keeps what holds of it where one seat moves and neither its row nor the order changes.
-    pub key_moves : is_place p ≡ true → Moves seats next p n → Stake k x row us won p n → unsettled_write k n.live ≡ unsettled_write k (seats p).live → KeyOk k x row us seats won → KeyOk k x row us next won
-    key_moves place m stake write old =
+  -- What holds of the new seat, and of the others as they were, holds of every seat.
+  pub all_moved : {seats next : ℕ → Seat V} {p : ℕ} {n : Seat V} → Moves seats next p n → (P : ℕ → Seat V → Type 0) → P p n
+      → ((q : ℕ) → is_place q ≡ true → (q ≡ p → ⊥) → P q (seats q)) → (q : ℕ) → is_place q ≡ true → P q (next q)
+  all_moved {seats} {next} {p} {n} m P here there q at =
+      by_place (λ r. is_place r ≡ true → P r (next r)) p q (λ _. subst (P p) (sym m.here) here)
+      (λ apart at. subst (P q) (sym (m.others q at apart)) (there q at apart)) at
+
+  -- Where a write that won is.
+  abbrev pub WonBy : ℕ → V → (ℕ → Seat V) → Type 0
+  WonBy k v seats = (p : ℕ) × (is_place p ≡ true) × (unsettled_write k (seats p).live ≡ Some v)
+
+  pub won_moved : {seats next : ℕ → Seat V} {p : ℕ} {n : Seat V} → Moves seats next p n → (k : ℕ) (v : V)
+      → (unsettled_write k (seats p).live ≡ Some v → unsettled_write k n.live ≡ Some v) → WonBy k v seats → WonBy k v next
+  won_moved {seats} m k v still won =
+      (won.0, won.1, all_moved m (λ q (s : Seat V). unsettled_write k (seats q).live ≡ Some v → unsettled_write k s.live ≡ Some v) still (λ q at apart is. is) won.0 won.1 won.2)
+
+  -- A key keeps what holds of it where one seat moves and neither its row nor the order changes.
+  module _ {k : ℕ} {x : Option V} {row : Row V} {us : List (Transaction V)} {seats next : ℕ → Seat V} {won : Option (V × ℕ)} {p : ℕ} {n : Seat V} where
+    pub key_moves : Moves seats next p n → Stake k x row us won p n → unsettled_write k n.live ≡ unsettled_write k (seats p).live → KeyOk k x row us seats won → KeyOk k x row us next won
+    key_moves m stake write old =
         record {
           fair = old.fair;
           stands = old.stands;
@@ -198,18 +247,11 @@ module _ {V : Type 0} where
           sees = old.sees;
           above = old.above;
           holder = old.holder;
-          winner = λ w is. won_still w (old.winner w is);
-          stakes = λ q at. by_place (λ r. is_place r ≡ true → Stake k x row us won r (next r)) p q (λ _. subst (Stake k x row us won p) (sym m.here) stake) (λ apart at. subst (Stake k x row us won q) (sym (m.others q at apart)) (old.stakes q at)) at;
+          winner = λ w is. won_moved m k w.0 (λ was. write ∙ was) (old.winner w is);
+          stakes = all_moved m (Stake k x row us won) stake (λ q at _. old.stakes q at);
         }
-      where
-        won_still : (w : V × ℕ) → (q : ℕ) × (is_place q ≡ true) × (unsettled_write k (seats q).live ≡ Some w.0) → (q : ℕ) × (is_place q ≡ true) × (unsettled_write k (next q).live ≡ Some w.0)
-        won_still w old = (old.0, old.1, by_place (λ r. is_place r ≡ true → unsettled_write k (seats r).live ≡ Some w.0 → unsettled_write k (next r).live ≡ Some w.0) p old.0 (λ _ is. ap (λ (s : Seat V). unsettled_write k s.live) m.here ∙ write ∙ is) (λ apart at is. ap (λ (s : Seat V). unsettled_write k s.live) (m.others old.0 at apart) ∙ is) old.1 old.2)
 
-  module _ (k : ℕ) (x : Option V) (us : List (Transaction V)) (seats next : ℕ → Seat V) (p : ℕ) (n : Seat V) where
-    pub void_moves : is_place p ≡ true → Moves seats next p n → among k (keys_of n.live.ops) ≡ false → VoidOk k x us seats → VoidOk k x us next
-    void_moves place m none old =
-        record {
-          none = old.none;
-          skipped = old.skipped;
-          fresh = λ q at. by_place (λ r. is_place r ≡ true → among k (keys_of (next r).live.ops) ≡ false) p q (λ _. ap (λ (s : Seat V). among k (keys_of s.live.ops)) m.here ∙ none) (λ apart at. ap (λ (s : Seat V). among k (keys_of s.live.ops)) (m.others q at apart) ∙ old.fresh q at) at;
-        }
+  module _ {k : ℕ} {x : Option V} {us : List (Transaction V)} {seats next : ℕ → Seat V} {p : ℕ} {n : Seat V} where
+    pub void_moves : Moves seats next p n → among k (keys_of n.live.ops) ≡ false → VoidOk k x us seats → VoidOk k x us next
+    void_moves m none old =
+        record { none = old.none; skipped = old.skipped; fresh = all_moved m (λ q (s : Seat V). among k (keys_of s.live.ops) ≡ false) none (λ q at _. old.fresh q at) }

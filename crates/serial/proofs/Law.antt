@@ -1,9 +1,11 @@
 -- The law of a day from its invariant, and the invariant from the opening on.
-use Rattle.std.proofs.Common.{◌≡◌, ℕ, zero, suc, ◌+◌, ◌-◌, ◌≤◌, Bool, true, false, cond, eqb, leb, List, [], ◌∷◌, ◌++◌, map, length, take, drop, IfOk, Some, None, Ok, Err, Option, Result, sym, refl, ap, ◌∙◌, subst, inl, arith, length-append, length-drop, length-take-le}
+use Rattle.std.proofs.Common.{◌≡◌, ℕ, zero, suc, ◌+◌, ◌-◌, ◌≤◌, true, false, List, [], ◌∷◌, ◌++◌, map, length, take, drop, IfOk, Some, None, Ok, Err, Option, Result, sym, refl, ap, ◌∙◌, inl, arith, length-append, length-drop, length-take-le, inr}
 use lib.ListN.{length-map, get_or-append, get_or-map}
 use Rattle.std.specs.List.{slice_get, AllByRecursion as All}
+use Rattle.std.specs.Option.{option_map}
+use Rattle.std.proofs.lemmas.Bool.{cond_both}
+use Rattle.std.proofs.lemmas.Option.{slice_get-map, slice_get_cases}
 use Rattle.std.proofs.lemmas.Bool.Decides.{nat_tests}
-use Rattle.home.specs.declared.fault.Refusal.TheVariants.{ShortTable}
 use Rattle.home.specs.declared.fault.Fault.{Fault}
 use Rattle.home.specs.declared.row.Row.{Row}
 use Rattle.home.specs.Meaning.{Meaning, Sound, is_place}
@@ -11,35 +13,24 @@ use Rattle.home.proofs.Calls.{fair_at}
 use Rattle.coordinator.specs.declared.call.Call.{Call}
 use Rattle.coordinator.specs.declared.tables.Place.{Place}
 use Rattle.coordinator.specs.declared.tables.Entry.{Entry}
-use Rattle.coordinator.specs.Tables.{fault_of, is_short, tables}
+use Rattle.coordinator.specs.Tables.{is_short, tables}
 use Rattle.coordinator.specs.Calls.{Decision, freed}
 use Rattle.coordinator.specs.Calls.{held_from, opening, opening_clean}
 use Rattle.serial.specs.Events.{Event, history_of, Store, store}
-use Rattle.serial.specs.Transactions.{Live, Orderly, Transaction, among, decided_in, first_of, is_some, keys_of, last_write, live, pending_write, or_else, serial_order, unsettled, when, unsettled_write}
+use Rattle.serial.specs.Transactions.{Live, Orderly, Transaction, among, decided_in, first_of, is_some, keys_of, live, pending_write, or_else, serial_order, unsettled, when, unsettled_write}
 use Rattle.serial.specs.Serial.{SerialHistory, SerialFrom, held_now, is_held_by, opened, run_all, value_of, values_of}
-use Rattle.serial.proofs.Run.{AllSee, all_along, along_skip, arranged_shuffled, latest, nth_run_all, replays, sees_skip, upto_end, upto_latest, written_among}
+use Rattle.serial.proofs.Run.{absent, never_written, when_none, AllSee, all_along, along_skip, arranged_shuffled, latest, nth_run_all, replays, sees_skip, upto_end, upto_latest}
 use Rattle.serial.proofs.Seats.{blank, place_at, place_range}
 use Rattle.serial.proofs.Steps.{keeps}
+use Rattle.serial.proofs.Changes.{stake_absent}
 use Rattle.serial.proofs.Invariant.{Good, Inv, KeyOk, Stake, bound, seat_of, standing}
-
-pub nth_map : {A B : Type 0} (f : A → B) (xs : List A) (i : ℕ) (x : A) → slice_get xs i ≡ Some x → slice_get (map f xs) i ≡ Some (f x)
-nth_map f [] i x is = absurd (let z : ◌≡◌ {A = ℕ} 0 1 = cc in omega arith)
-nth_map {A} {B} f (a ∷ xs) zero x is = let same : a ≡ x = cc in ap (λ (o : A). Some (f o)) same
-nth_map f (a ∷ xs) (suc i) x is = nth_map f xs i x is
-
-pub nth_map_none : {A B : Type 0} (f : A → B) (xs : List A) (i : ℕ) → slice_get xs i ≡ None → slice_get (map f xs) i ≡ None
-nth_map_none f [] i is = refl
-nth_map_none f (a ∷ xs) zero is = absurd (let z : ◌≡◌ {A = ℕ} 0 1 = cc in omega arith)
-nth_map_none f (a ∷ xs) (suc i) is = nth_map_none f xs i is
 
 -- ---- the first that is there
 
 module _ {V : Type 0} (f : ℕ → Option V) where
   first_none : (n : ℕ) → ((p : ℕ) → 1 ≤ p → p ≤ n → f p ≡ None) → first_of f n ≡ None
   first_none zero none = refl
-  first_none (suc n) none =
-      ap (λ (o : Option V). or_else o (first_of f n)) (none (suc n) (omega arith) (omega arith))
-      ∙ first_none n (λ p low high. none p low (omega arith))
+  first_none (suc n) none = rw (none (suc n) (omega arith) (omega arith)) (first_none n (λ p low high. none p low (omega arith)))
 
   -- All that are there are one and the same.
   first_some : (n : ℕ) (v : V) (p : ℕ) → 1 ≤ p → p ≤ n → f p ≡ Some v →
@@ -50,10 +41,7 @@ module _ {V : Type 0} (f : ℕ → Option V) where
     where
       go : (o : Option V) → f (suc n) ≡ o → (p ≤ n → first_of f n ≡ Some v) → or_else o (first_of f n) ≡ Some v
       go (Some w) here rest = ap (λ (u : V). Some u) (only (suc n) w (omega arith) (omega arith) here)
-      go None here rest = rest (let other = apart in omega arith)
-        where
-          apart : p ≡ suc n → ⊥
-          apart same = let there = ap f same in let z : ◌≡◌ {A = ℕ} 0 1 = cc in omega arith
+      go None here rest = rest (let apart : (p ≡ suc n → ⊥) = λ same. cc in omega arith)
 
 -- ---- transactions that leave a key alone
 
@@ -69,16 +57,8 @@ module _ {V : Type 0} where
   skipped_see k x [] all = tt
   skipped_see k x (t ∷ us) all = (skipped_see k x us all.1, sees_skip k t.ops all.0 (all_along k x us))
 
-  when_none : (b : Bool) → when {V = V} b None ≡ None
-  when_none true = refl
-  when_none false = refl
-
   unused_write : (k : ℕ) (l : Live V) → among k (keys_of l.ops) ≡ false → pending_write k l ≡ None
-  unused_write k l none = go (last_write k l.ops) refl
-    where
-      go : (o : Option V) → last_write k l.ops ≡ o → when (among k (drop l.handled (keys_of l.ops))) o ≡ None
-      go None is = when_none (among k (drop l.handled (keys_of l.ops)))
-      go (Some v) is = absurd (let some = written_among k l.ops v is in let z : ◌≡◌ {A = ℕ} 0 1 = cc in omega arith)
+  unused_write k l none = ap (when (among k (drop l.handled (keys_of l.ops)))) (never_written k l.ops none) ∙ when_none _
 
   unused_won : (k : ℕ) (l : Live V) → among k (keys_of l.ops) ≡ false → unsettled_write k l ≡ None
   unused_won k l none = ap (when l.decided) (unused_write k l none) ∙ when_none l.decided
@@ -91,11 +71,7 @@ module _ {V : Type 0} (start : List V) (es : List (Event V)) (st : Store V) (i :
 
   -- A key that the home has, or has not.
   by_row : (P : ℕ → Type 0) (k : ℕ) → ((row : Row V) → slice_get home_rows k ≡ Some row → P k) → (slice_get home_rows k ≡ None → P k) → P k
-  by_row P k some none = go (slice_get home_rows k) refl
-    where
-      go : (o : Option (Row V)) → slice_get home_rows k ≡ o → P k
-      go (Some row) is = some row is
-      go None is = none is
+  by_row P k some none = elim (slice_get_cases home_rows k).1 [ inl h ↦ some h.0 h.2 | inr h ↦ none h.1 ]
 
   see_key : (k : ℕ) → AllSee k (slice_get start k) (serial_order es)
   see_key k =
@@ -108,35 +84,20 @@ module _ {V : Type 0} (start : List V) (es : List (Event V)) (st : Store V) (i :
 
   -- The unsettled write of a key is what its row waits for.
   open_none : (k : ℕ) (row : Row V) → RowOk k row None → unsettled k es ≡ None
-  open_none k row ok = first_none (λ p. unsettled_write k (live p es)) 64 (λ p low high. each p (grind (arith, nat_tests)))
-    where
-      each : (p : ℕ) → is_place p ≡ true → unsettled_write k (live p es) ≡ None
-      each p at = go (unsettled_write k (live p es)) refl
-        where
-          go : (o : Option V) → unsettled_write k (live p es) ≡ o → o ≡ None
-          go None is = refl
-          go (Some v) is = absurd (let w = (ok.stakes p at).wins v is in let z : ◌≡◌ {A = ℕ} 0 1 = cc in omega arith)
+  open_none k row ok = first_none (λ p. unsettled_write k (live p es)) 64 (λ p low high. absent _ (λ v is. cc ((ok.stakes p (grind (arith, nat_tests))).wins v is)))
 
   open_some : (k : ℕ) (row : Row V) (w : V × ℕ) → RowOk k row (Some w) → unsettled k es ≡ Some w.0
   open_some k row w ok =
       let h = ok.winner w refl in
       let r = place_range h.0 h.1 in
       first_some (λ p. unsettled_write k (live p es)) 64 w.0 h.0 r.0 r.1 h.2
-      (λ q v low high is. each q v (grind (arith, nat_tests)) is)
-    where
-      each : (q : ℕ) (v : V) → is_place q ≡ true → unsettled_write k (live q es) ≡ Some v → v ≡ w.0
-      each q v at is =
-          let e = (ok.stakes q at).wins v is in
-          let same : w ≡ (v, (seat_of st es q).place.ts) = cc in
-          sym (ap (λ (u : V × ℕ). u.0) same)
+      (λ q v low high is. let same : w ≡ (v, (seat_of st es q).place.ts) = cc ((ok.stakes q (grind (arith, nat_tests))).wins v is) in sym (ap (λ (u : V × ℕ). u.0) same))
 
   -- At a time past all that was decided, the value that stands is the row's with the unsettled write put in.
   stands_late : (k : ℕ) (row : Row V) (won : Option (V × ℕ)) → RowOk k row won → (τ : ℕ) → bound won row ≤ τ →
       Some (standing won row τ) ≡ or_else (unsettled k es) (Some row.value)
-  stands_late k row None ok τ late = sym (ap (λ (o : Option V). or_else o (Some row.value)) (open_none k row ok))
-  stands_late k row (Some w) ok τ late =
-      let past : leb w.1 τ ≡ true = grind (arith, nat_tests) in
-      ap (λ b. Some (cond b w.0 row.value)) past ∙ sym (ap (λ (o : Option V). or_else o (Some row.value)) (open_some k row w ok))
+  stands_late k row None ok τ late = rw (open_none k row ok)
+  stands_late k row (Some w) ok τ late = rw (open_some k row w ok) (grind (arith, nat_tests))
 
   abbrev Value : ℕ → Type 0
   Value k = slice_get (run_all start (serial_order es)) k ≡ or_else (unsettled k es) (slice_get (values_of st.tables.home) k)
@@ -147,7 +108,7 @@ module _ {V : Type 0} (start : List V) (es : List (Event V)) (st : Store V) (i :
       ∙ upto_end k (slice_get start k) late (serial_order es) (upto_latest late (serial_order es) (omega arith))
       ∙ ok.stands late (omega arith)
       ∙ stands_late k row won ok late (omega arith)
-      ∙ ap (or_else (unsettled k es)) (sym (nth_map value_of home_rows k row is))
+      ∙ ap (or_else (unsettled k es)) (sym (slice_get-map value_of home_rows k ∙ ap (option_map value_of) is))
     where
       won : Option (V × ℕ)
       won = (i.keys k row is).0
@@ -166,7 +127,7 @@ module _ {V : Type 0} (start : List V) (es : List (Event V)) (st : Store V) (i :
       nth_run_all start (serial_order es) k
       ∙ skipped_along k (slice_get start k) (serial_order es) ok.skipped
       ∙ ok.none
-      ∙ sym (nth_map_none value_of home_rows k is)
+      ∙ sym (slice_get-map value_of home_rows k ∙ ap (option_map value_of) is)
       ∙ sym (ap (λ (o : Option V). or_else o (slice_get (values_of st.tables.home) k)) none)
 
   held_row : (p k : ℕ) → is_place p ≡ true → (o : Option (Row V)) → slice_get home_rows k ≡ o → is_held_by p o ≡ is_some (pending_write k (live p es))
@@ -195,42 +156,27 @@ freed_length : (places : List Place) → 64 ≤ length places → length (map fr
 freed_length places many = length-map (take 64 places) freed ∙ length-take-le 64 places many
 
 all_length : (places : List Place) → 64 ≤ length places → length (all_freed places) ≡ length places
-all_length places many =
-    let a = length-append (map freed (take 64 places)) (drop 64 places) in
-    let b = freed_length places many in
-    let c = length-drop 64 places in
-    omega arith
+all_length places many = omega (arith, length-append (map freed (take 64 places)) (drop 64 places), freed_length places many, length-drop 64 places)
 
 freed_place : (places : List Place) (p : ℕ) → 64 ≤ length places → is_place p ≡ true → (place_at (all_freed places) p).state ≡ 0
 freed_place places p many at =
-    let r = place_range p at in
-    let n = freed_length places many in
     ap (λ (o : Place). o.state)
-    (get_or-append (map freed (take 64 places)) (drop 64 places) blank (p - 1) (omega arith)
+    (get_or-append (map freed (take 64 places)) (drop 64 places) blank (p - 1) (omega (arith, place_range p at, freed_length places many))
     ∙ get_or-map freed (take 64 places) (p - 1) blank)
 
 module _ {V : Type 0} where
   free_first : (key : ℕ) (row : Row V) (rows : List (Row V)) → held_from key (row ∷ rows) ≡ None →
       (row.holder ≡ 0) × (held_from (key + 1) rows ≡ None)
-  free_first key row rows is = go (eqb row.holder 0) refl is
-    where
-      go : (b : Bool) → eqb row.holder 0 ≡ b → cond b (held_from (key + 1) rows) (Some (key, row.holder)) ≡ None →
-          (row.holder ≡ 0) × (held_from (key + 1) rows ≡ None)
-      go true free is = (grind (arith, nat_tests), is)
-      go false other is = absurd (let z : ◌≡◌ {A = ℕ} 0 1 = cc in omega arith)
+  free_first key row rows is = grind (arith, nat_tests)
 
   free_row : (key : ℕ) (rows : List (Row V)) → held_from key rows ≡ None → (k : ℕ) (row : Row V) → slice_get rows k ≡ Some row → row.holder ≡ 0
-  free_row key [] none k row is = absurd (let z : ◌≡◌ {A = ℕ} 0 1 = cc in omega arith)
-  free_row key (r ∷ rows) none zero row is = let same : r ≡ row = cc in ap (λ (o : Row V). o.holder) (sym same) ∙ (free_first key r rows none).0
+  free_row key [] none k row is = cc
+  free_row key (r ∷ rows) none zero row is = cc ((free_first key r rows none).0)
   free_row key (r ∷ rows) none (suc k) row is = free_row (key + 1) rows (free_first key r rows none).1 k row is
 
   free_count : (key : ℕ) (rows : List (Row V)) → held_from key rows ≡ None → held_now rows ≡ 0
   free_count key [] none = refl
-  free_count key (r ∷ rows) none =
-      let h = free_first key r rows none in
-      let first = h.0 in
-      let ih = free_count (key + 1) rows h.1 in
-      grind (arith, nat_tests)
+  free_count key (r ∷ rows) none = grind (arith, nat_tests, free_first key r rows none, free_count (key + 1) rows (free_first key r rows none).1)
 
   module _ (m : Meaning V) (places : List Place) (entries : List (Entry V)) where
     abbrev clean : Store V
@@ -240,43 +186,35 @@ module _ {V : Type 0} where
         Stake k (slice_get (values_of m) k) row [] None p (seat_of clean [] p)
     free_stake k p row many at free =
         let r = place_range p at in
-        let low = r.0 in
-        let none = freed_place places p many at in
-        record {
-          owner = grind (arith, nat_tests);
-          seen = λ u e is unwritten. absurd (let z : ◌≡◌ {A = ℕ} 0 1 = grind (arith, nat_tests) in omega arith);
-          holds = λ u is. absurd (let z : ◌≡◌ {A = ℕ} 0 1 = cc in omega arith);
-          wins = λ v is. absurd (let z : ◌≡◌ {A = ℕ} 0 1 = cc in omega arith);
-        }
+        stake_absent refl (grind (arith, nat_tests)) (λ u e is unwritten. grind (arith, nat_tests, freed_place places p many at))
 
     clean_inv : Sound m → 64 ≤ length places → 1024 ≤ length entries → held_from 0 m.rows ≡ None →
         Inv (λ k. slice_get (values_of m) k) [] clean
     clean_inv sound many long none =
         record {
-          many = (let l = all_length places many in omega arith);
+          many = omega (arith, all_length places many);
           long = long;
           seated = λ p at. record {
             free = λ _. refl;
-            busy = λ is. absurd (let free = freed_place places p many at in let z : ◌≡◌ {A = ℕ} 0 1 = grind (arith, nat_tests) in omega arith);
+            busy = λ is. grind (arith, nat_tests, freed_place places p many at);
           };
           keys = λ k row is. (None, key k row is (free_row 0 m.rows none k row is));
-          voids = λ k is. record { none = nth_map_none value_of m.rows k is; skipped = tt; fresh = λ p at. refl };
+          voids = λ k is. record { none = slice_get-map value_of m.rows k ∙ ap (option_map value_of) is; skipped = tt; fresh = λ p at. refl };
           sorted = tt;
           numbered = tt;
           limit = omega arith;
-          holds = (let h = free_count 0 m.rows none in omega arith);
+          holds = omega (arith, free_count 0 m.rows none);
         }
       where
         key : (k : ℕ) (row : Row V) → slice_get m.rows k ≡ Some row → row.holder ≡ 0 → KeyOk k (slice_get (values_of m) k) row [] (seat_of clean []) None
         key k row is free =
-            let f = fair_at m.last m.rows k row sound.rows is in
             record {
-              fair = grind (arith, nat_tests);
-              stands = λ τ from. nth_map value_of m.rows k row is;
+              fair = grind (arith, nat_tests, fair_at m.last m.rows k row sound.rows is);
+              stands = λ τ from. slice_get-map value_of m.rows k ∙ ap (option_map value_of) is;
               quiet = tt;
               sees = tt;
               above = tt;
-              winner = λ w won. absurd (let z : ◌≡◌ {A = ℕ} 0 1 = cc in omega arith);
+              winner = λ w won. cc;
               stakes = λ p at. free_stake k p row many at free;
               holder = inl free;
             }
@@ -285,7 +223,7 @@ module _ {V : Type 0} where
     clean_good sound many long none =
         record {
           inv = clean_inv sound many long none;
-          runs = λ p at. let free = freed_place places p many at in grind (arith, nat_tests);
+          runs = λ p at. grind (arith, nat_tests, freed_place places p many at);
           orderly = tt;
         }
 
@@ -293,26 +231,14 @@ module _ {V : Type 0} where
     pub opened_good : (counter : ℕ) → Sound m → (opening m places (length entries) counter).answer ≡ Ok tt →
         Good (λ k. slice_get (values_of m) k) [] (opened m places entries counter)
     unfolding opening
-    opened_good counter sound ok = go (is_short (length places) (length entries)) refl ok
+    opened_good counter sound = cond_both (is_short (length places) (length entries)) _ _ Opens (λ short no'. cc) (λ enough. by_held enough (held_from 0 m.rows) refl)
       where
-        short : Decision (Unit {0})
-        short = record { answer = Err (fault_of ShortTable 0 0 0); places = places; counter = counter }
+        Opens : Decision (Unit {0}) → Type 0
+        Opens d = d.answer ≡ Ok tt → Good (λ k. slice_get (values_of m) k) [] (record { tables = tables m d.places entries; counter = d.counter })
 
-        state : Decision (Unit {0}) → Store V
-        state d = record { tables = tables m d.places entries; counter = d.counter }
-
-        by_held : (o : Option (ℕ × ℕ)) → held_from 0 m.rows ≡ o → is_short (length places) (length entries) ≡ false →
-            (opening_clean places counter o).answer ≡ Ok tt → Good (λ k. slice_get (values_of m) k) [] (state (opening_clean places counter o))
-        by_held None none enough is = clean_good sound (grind (arith, nat_tests)) (grind (arith, nat_tests)) none
-        by_held (Some held) none enough is = absurd (let z : ◌≡◌ {A = ℕ} 0 1 = cc in omega arith)
-
-        rest : Decision (Unit {0})
-        rest = opening_clean places counter (held_from 0 m.rows)
-
-        go : (b : Bool) → is_short (length places) (length entries) ≡ b → (cond b short rest).answer ≡ Ok tt →
-            Good (λ k. slice_get (values_of m) k) [] (state (cond b short rest))
-        go true is no' = absurd (let z : ◌≡◌ {A = ℕ} 0 1 = cc in omega arith)
-        go false is yes' = by_held (held_from 0 m.rows) refl is yes'
+        by_held : is_short (length places) (length entries) ≡ false → (o : Option (ℕ × ℕ)) → held_from 0 m.rows ≡ o → Opens (opening_clean places counter o)
+        by_held enough None none is = clean_good sound (grind (arith, nat_tests)) (grind (arith, nat_tests)) none
+        by_held enough (Some held) none is = cc
 
 -- ---- every history
 
@@ -334,6 +260,5 @@ module _ {V : Type 0} where
       IfOk r (λ _. Sound m) → IfOk r (λ _. SerialFrom (store m after entries number))
   opening_made m places entries counter (Ok done) after number is at_places at-counter sound =
       let law = opening_serial m places entries counter sound (sym is) in
-      subst (λ (ps : List Place). SerialFrom (store m ps entries number)) (sym at_places)
-      (subst (λ (n : ℕ). SerialFrom (store m (opening m places (length entries) counter).places entries n)) (sym at-counter) law)
+      rw (at_places, at-counter) law
   opening_made m places entries counter (Err fault) after number is at_places at-counter sound = tt

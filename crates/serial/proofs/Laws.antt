@@ -1,63 +1,28 @@
 -- Every call obeys the laws of its refusals and of its reach; its rule is taken apart stage by stage.
 --   Fine st call step    the laws of one call, of a step that it may come to
 --   lawful               the laws of every call
-use Rattle.std.proofs.Common.{◌≡◌, ℕ, zero, suc, ◌+◌, ◌-◌, ◌<◌, ◌≤◌, Bool, true, false, cond, eqb, ltb, ◌⊎◌, List, [], ◌∷◌, length, Some, None, Ok, Err, Option, Result, sym, refl, ap, ◌∙◌, inl, inr, arith, length-set}
+use Rattle.std.proofs.Common.{◌≡◌, ℕ, ◌+◌, ◌-◌, ◌<◌, ◌≤◌, Bool, true, false, cond, eqb, ltb, ◌⊎◌, List, length, Some, None, Ok, Err, Option, Result, sym, refl, ap, ◌∙◌, subst, arith, length-set, ◌||◌, leb}
 use Rattle.std.specs.List.{slice_get}
-use Rattle.std.proofs.lemmas.Option.{slice_get-get_or}
+use Rattle.std.proofs.lemmas.Option.{slice_get_cases, slice_get_within}
+use Rattle.std.proofs.lemmas.Bool.{cond_both}
 use Rattle.std.proofs.lemmas.Bool.Decides.{nat_tests}
 use Rattle.home.specs.declared.fault.Fault.{Fault}
-use Rattle.home.specs.declared.fault.Refusal.TheVariants.{DayFull, MovedOn, NoPlace, PlaceTaken, SheetFull, ShortTable, Unchecked, WrongState}
+use Rattle.home.specs.declared.fault.Refusal.TheVariants.{MovedOn}
 use Rattle.home.specs.declared.row.Row.{Row}
 use Rattle.home.specs.declared.row.Cause.{Cause}
-use Rattle.home.specs.declared.row.Change.{Change}
 use Rattle.home.specs.declared.row.Change.TheVariants.{Free, Put}
-use Rattle.home.specs.Rows.{Outcome, refuses, grants, free_row, put_row}
-use Rattle.home.specs.Meaning.{Meaning, after, amended_at, changed, fault_at, found as row-found, is_place, looked, no_place, raised}
+use Rattle.home.specs.Rows.{Outcome, refuses, grants}
+use Rattle.home.proofs.Laws.{nth_set_other, nth_set_same}
+use Rattle.home.specs.Meaning.{Meaning, after, amended_at, changed, fault_at, is_place, looked, no_place, raised}
 use Rattle.coordinator.specs.declared.call.Call.{Call}
 use Rattle.coordinator.specs.declared.tables.Place.{Place}
 use Rattle.coordinator.specs.declared.tables.Entry.{Entry}
-use Rattle.coordinator.specs.Tables.{admits, at_cursor, base_of, by_state, count_of, cursor_of, entered, fault_of, is_short, put_entry, put_place, sheet, sought, state_refusal, tables, used_of}
-use Rattle.coordinator.specs.Calls.{Decision, Did, abort_turn, begin_turn, by_entry, comparing, comparing_at, decide_turn, deciding_at, ending, freed, freeze_turn, holding, holding_at, left_after, loses, moved_to, moving, onward, read_call, reading, reading_new, reading_row, refused as away, renew_call, renewing, renewing_at, renewing_row, rewriting, settle_call, settling, settling_row, turning, with_places, write_call, writing}
+use Rattle.coordinator.specs.Tables.{at_cursor, base_of, count_of, cursor_of, entered, fault_of, put_entry, put_place, sheet, sought, tables, used_of}
+use Rattle.coordinator.specs.Calls.{Decision, Did, abort_turn, begin_turn, by_entry, comparing, comparing_at, decide_turn, deciding_at, ending, freed, freeze_turn, holding, holding_at, left_after, loses, onward, read_call, reading, reading_new, reading_row, renew_call, renewing, renewing_at, renewing_row, settle_call, settling, settling_row, turning, with_places, write_call, writing}
 use Rattle.serial.specs.Events.{Event, Store, Step, by_decision, by_did, by_turn, did_abort, did_begin, did_decide, did_freeze, did_read, did_renew, did_settle, did_write, refused, stepped}
 use Rattle.serial.specs.Laws.{Handled, Lawful, OneEntry, Reaches, losing, place_of, raised_by}
-use Rattle.serial.proofs.Run.{nth_set_other, nth_set_same, over}
-use Rattle.serial.proofs.Seats.{blank, entered_ok, place_range, sheet_length}
+use Rattle.serial.proofs.Seats.{by_entered, place_range, sheet_length}
 use Rattle.serial.proofs.Keys.{sought_found}
-use Rattle.serial.proofs.Settles.{nth_below}
-
--- ---- faults that lose nothing
-
--- Refused by what does not lose: the fault does not lose.
-only : {A : Type 0} (given fault : Fault) → ◌≡◌ {A = Result A Fault} (Err given) (Err fault) → loses given ≡ false → loses fault ≡ false
-only given fault is no' = let same : given ≡ fault = cc in ap loses (sym same) ∙ no'
-
--- The first tests refuse by 14, 4, 8 or 9.
-entry_fault : (code : ℕ) (places : List Place) (n p key : ℕ) (fault : Fault) → entered code places n p key ≡ Err fault → loses fault ≡ false
-unfolding entered
-entry_fault code places n p key fault is = by_tables (is_short (length places) n) is
-  where
-    Kept : Result Place Fault → Type 0
-    Kept r = r ≡ Err fault → loses fault ≡ false
-
-    by_code : (b : Bool) (state : ℕ) → Kept (Err (fault_of (cond b PlaceTaken WrongState) p key state))
-    by_code true state is = only {A = Place} _ fault is refl
-    by_code false state is = only {A = Place} _ fault is refl
-
-    by_test : (pl : Place) (b : Bool) → Kept (cond b (Ok pl) (Err (fault_of (state_refusal code) p key pl.state)))
-    by_test pl true is = absurd (let z : ◌≡◌ {A = ℕ} 0 1 = cc in omega arith)
-    by_test pl false is = by_code (eqb code 1) pl.state is
-
-    by_nth : (o : Option Place) → Kept (by_state code p key o)
-    by_nth None is = only {A = Place} _ fault is refl
-    by_nth (Some pl) is = by_test pl (admits code pl.state) is
-
-    by_place : (b : Bool) → Kept (cond b (by_state code p key (slice_get places (p - 1))) (Err (fault_of NoPlace p key 0)))
-    by_place true is = by_nth _ is
-    by_place false is = only {A = Place} _ fault is refl
-
-    by_tables : (b : Bool) → Kept (cond b (Err (fault_of ShortTable p key 0)) (cond (is_place p) (by_state code p key (slice_get places (p - 1))) (Err (fault_of NoPlace p key 0))))
-    by_tables true is = only {A = Place} _ fault is refl
-    by_tables false is = by_place (is_place p) is
 
 -- ---- what a step may alter of the places
 
@@ -68,48 +33,25 @@ same_places : (p : ℕ) (places : List Place) → OwnPlace p places places
 same_places p places = (λ i apart. refl, refl)
 
 put_places : (p : ℕ) (places : List Place) (pl : Place) → is_place p ≡ true → OwnPlace p places (put_place places p pl)
-put_places p places pl at =
-    let r = place_range p at in
-    (λ i apart. nth_set_other places (p - 1) i pl (λ same. apart (omega arith)), length-set places (p - 1) pl)
+put_places p places pl at = (λ i apart. nth_set_other places (p - 1) i pl (λ same. apart (omega (arith, place_range p at))), length-set places (p - 1) pl)
 
 module _ {V : Type 0} where
+  -- ---- faults that lose nothing
+
   -- A look is refused by 1.
   look_fault : (m : Meaning V) (key : ℕ) (fault : Fault) → looked m key ≡ Err fault → loses fault ≡ false
   unfolding looked
-  look_fault m key fault is = go (slice_get m.rows key) is
-    where
-      go : (o : Option (Row V)) → raised 0 key (row-found o) ≡ Err fault → loses fault ≡ false
-      go None is = only {A = Row V} _ fault is refl
-      go (Some row) is = absurd (let z : ◌≡◌ {A = ℕ} 0 1 = cc in omega arith)
+  look_fault m key fault is = grind (arith, slice_get_cases m.rows key)
 
   -- A put or a free is refused by 4, 1, 6, 3 or 7.
   ending_fault : (m : Meaning V) (key p : ℕ) (pl : Place) (e : Entry V) (cause : Cause) → changed m key (ending p pl e) ≡ refuses cause → loses (fault_at p key cause) ≡ false
   unfolding changed
-  ending_fault m key p pl e cause is = by_place (eqb pl.state 4) _ is
+  ending_fault m key p pl e cause is = go (eqb pl.state 4) _ _ is
     where
-      Kept : Outcome V → Type 0
-      Kept o = o ≡ refuses cause → loses (fault_at p key cause) ≡ false
-
-      change : Bool → Change V
-      change wins = cond wins (Put p e.value pl.ts) (Free p)
-
-      kept : (given : Cause) → loses (fault_at p key given) ≡ false → Kept (refuses given)
-      kept given no' is = let same : given ≡ cause = cc in ap (λ c. loses (fault_at p key c)) (sym same) ∙ no'
-
-      put : (row : Row V) → Kept (put_row m.last p e.value pl.ts row)
-      put row is = grind (arith, nat_tests)
-
-      free : (row : Row V) → Kept (free_row p row)
-      free row is = grind (arith, nat_tests)
-
-      by_row : (wins : Bool) (o : Option (Row V)) → Kept (amended_at m.last (change wins) o)
-      by_row wins None is = kept _ refl is
-      by_row true (Some row) is = put row is
-      by_row false (Some row) is = free row is
-
-      by_place : (wins b : Bool) → Kept (cond b (amended_at m.last (change wins) (slice_get m.rows key)) (refuses no_place))
-      by_place wins true is = by_row wins _ is
-      by_place wins false is = kept _ refl is
+      go : (wins b : Bool) (o : Option (Row V)) → cond b (amended_at m.last (cond wins (Put p e.value pl.ts) (Free p)) o) (refuses no_place) ≡ refuses cause → loses (fault_at p key cause) ≡ false
+      go true true (Some row) is = grind (arith, nat_tests)
+      go false true (Some row) is = grind (arith, nat_tests)
+      go wins b o is = grind arith
 
   -- ---- the laws of a step
 
@@ -137,11 +79,7 @@ module _ {V : Type 0} where
   same_sheets p entries = (λ i out. refl, refl)
 
   put_sheets : (p at : ℕ) (entries : List (Entry V)) (e : Entry V) → at < 16 → OwnSheet p entries (put_entry entries p at e)
-  put_sheets p at entries e low = (λ i out. nth_set_other entries (base_of p + at) i e (λ same. past i out same), length-set entries (base_of p + at) e)
-    where
-      past : (i : ℕ) → (i < base_of p) ⊎ (base_of p + 16 ≤ i) → i ≡ base_of p + at → ⊥
-      past i (inl below) same = omega arith
-      past i (inr above) same = omega arith
+  put_sheets p at entries e low = (λ i out. nth_set_other entries (base_of p + at) i e (λ same. grind arith), length-set entries (base_of p + at) e)
 
   same_rows : (m : Meaning V) → OneRow m m
   same_rows m = ((0, λ k apart. refl), refl, refl)
@@ -185,13 +123,11 @@ module _ {V : Type 0} where
         refusal = λ given came.
             let same : fault ≡ given = cc in
             ap (λ (f : Fault). lost_store st call (loses f) (Some pl)) same ∙ ap (λ o. lost_store st call (loses given) o) (sym is);
-        reach = reaches st (lost_store st call (loses fault) (Some pl)) (place_of call) 0 (by_loss (loses fault)) (same_sheets _ _) (same_rows _) (omega arith);
+        reach =
+            reaches st (lost_store st call (loses fault) (Some pl)) (place_of call) 0
+            (cond_both (loses fault) _ _ (OwnPlace (place_of call) st.tables.places) (λ _. put_places _ _ _ at) (λ _. same_places _ _)) (same_sheets _ _) (same_rows _) (omega arith);
         single = tt;
       }
-    where
-      by_loss : (b : Bool) → OwnPlace (place_of call) st.tables.places (lost_store st call b (Some pl)).tables.places
-      by_loss true = put_places _ _ _ at
-      by_loss false = same_places _ _
 
   -- ---- an accepted call
 
@@ -210,7 +146,7 @@ module _ {V : Type 0} where
       → Fine st call (record { event = e; store = new })
   accepts st new call e accepted reach single =
       record {
-        refusal = λ fault is. absurd (let r = ap is_refusal is in let z : ◌≡◌ {A = ℕ} 0 1 = cc in omega arith);
+        refusal = λ fault is. cc (ap is_refusal is);
         reach = reach;
         single = single;
       }
@@ -228,78 +164,56 @@ module _ {V : Type 0} where
       pub long : 1024 ≤ length st.tables.entries
       pub was : slice_get st.tables.places (place_of call - 1) ≡ Some pl
 
-    let_in : (code key : ℕ) (pl : Place) → at_first code key ≡ Ok pl → Here pl
-    let_in code key pl is =
-        let en = entered_ok code st.tables.places (length st.tables.entries) (place_of call) key pl is in
-        let r = place_range (place_of call) en.place in
-        let many = en.many in
-        let low : place_of call - 1 < length st.tables.places = omega arith in
-        record {
-          place = en.place;
-          long = en.long;
-          was = slice_get-get_or st.tables.places (place_of call - 1) blank low ∙ ap (λ (o : Place). Some o) en.here;
-        }
+    -- It is refused by the first tests, and loses nothing, or goes on by its rule.
+    by_first : (code key : ℕ) (step : Result Place Fault → Step V) → ((fault : Fault) → step (Err fault) ≡ record { event = refused call fault; store = st })
+        → ((pl : Place) → Here pl → Fine st call (step (Ok pl))) → Fine st call (step (at_first code key))
+    by_first code key step refusal rule =
+        by_entered code _ _ (place_of call) key (λ r. Fine st call (step r)) (λ fault no'. subst (Fine st call) (sym (refusal fault)) (stays st call fault no'))
+        (λ en. rule _ (record { place = en.place; long = en.long; was = en.was }))
 
     -- The place alone is altered.
     fine_turn : {A : Type 0} (f : A → Event V) (code : ℕ) (rule : Place → A × Place)
         → ((a : A) → is_refusal (f a) ≡ false) → ((a : A) → raised_by (f a) ≡ 0) → ((a : A) (new : Store V) → OneEntry st new (f a))
-        → (r : Result Place Fault) → at_first code 0 ≡ r → Fine st call (by_turn st call f (turning st.tables.places (place_of call) rule r))
-    fine_turn f code rule accepted level single (Err fault) is = stays st call fault (entry_fault code _ _ _ 0 fault is)
-    fine_turn f code rule accepted level single (Ok pl) is =
-        let h = let_in code 0 pl is in
-        let none = level (rule pl).0 in
-        accepts st _ call _ (accepted _) (reaches st _ _ _ (put_places _ _ _ h.place) (same_sheets _ _) (same_rows _) (omega arith)) (single _ _)
+        → Fine st call (by_turn st call f (turning st.tables.places (place_of call) rule (at_first code 0)))
+    fine_turn f code rule accepted level single =
+        by_first code 0 (λ r. by_turn st call f (turning st.tables.places (place_of call) rule r)) (λ fault. refl)
+        (λ pl h.
+        accepts st _ call _ (accepted _) (reaches st _ _ _ (put_places _ _ _ h.place) (same_sheets _ _) (same_rows _) (omega (arith, level (rule pl).0))) (single _ _))
 
     -- Calls that look at the home.
     fine_entry : {A : Type 0} (f : A → Event V) (code key : ℕ) (rule : Place → Did V A)
-        → ((pl : Place) → Here pl → Fine st call (by_did st call f (rule pl)))
-        → (r : Result Place Fault) → at_first code key ≡ r → Fine st call (by_did st call f (by_entry st.tables rule r))
-    fine_entry f code key rule fine (Err fault) is = stays st call fault (entry_fault code _ _ _ key fault is)
-    fine_entry f code key rule fine (Ok pl) is = fine pl (let_in code key pl is)
+        → ((pl : Place) → Here pl → Fine st call (by_did st call f (rule pl))) → Fine st call (by_did st call f (by_entry st.tables rule (at_first code key)))
+    fine_entry f code key rule fine = by_first code key (λ r. by_did st call f (by_entry st.tables rule r)) (λ fault. refl) fine
 
   fine_begin : (st : Store V) (p : ℕ) → Fine st (Call.Begin p) (stepped st (Call.Begin p))
   unfolding stepped begin_turn
-  fine_begin st p = fine_turn st (Call.Begin p) (λ _. did_begin p) 1 _ (λ _. refl) (λ _. refl) (λ _ new. tt {0}) _ refl
+  fine_begin st p = fine_turn st (Call.Begin p) (λ _. did_begin p) 1 _ (λ _. refl) (λ _. refl) (λ _ new. tt {0})
 
   fine_freeze : (st : Store V) (p : ℕ) → Fine st (Call.Freeze p) (stepped st (Call.Freeze p))
   unfolding stepped freeze_turn
-  fine_freeze st p = fine_turn st (Call.Freeze p) (λ ts. did_freeze p ts) 4 _ (λ _. refl) (λ _. refl) (λ _ new. tt {0}) _ refl
+  fine_freeze st p = fine_turn st (Call.Freeze p) (λ ts. did_freeze p ts) 4 _ (λ _. refl) (λ _. refl) (λ _ new. tt {0})
 
   fine_abort : (st : Store V) (p : ℕ) → Fine st (Call.Abort p) (stepped st (Call.Abort p))
   unfolding stepped abort_turn
-  fine_abort st p = fine_turn st (Call.Abort p) (λ _. did_abort p) 8 _ (λ _. refl) (λ _. refl) (λ _ new. tt {0}) _ refl
+  fine_abort st p = fine_turn st (Call.Abort p) (λ _. did_abort p) 8 _ (λ _. refl) (λ _. refl) (λ _ new. tt {0})
 
   -- ---- decide
 
   fine_decide : (st : Store V) (p : ℕ) → Fine st (Call.Decide p) (stepped st (Call.Decide p))
   unfolding stepped decide_turn
-  fine_decide st p = go _ refl
+  fine_decide st p =
+      by_first st (Call.Decide p) 6 0 (λ r. step (deciding_at st.tables.places st.counter p r)) (λ fault. refl)
+      (λ pl h. cond_both (ltb (cursor_of pl) (used_of pl)) _ _ Ends (λ left. stays st _ _ refl)
+      (λ none. cond_both (eqb (count_of st.counter) 999999) _ _ Ends (λ full. stays st _ _ refl)
+      (λ more.
+      let below : count_of st.counter ≡ 999999 → ⊥ = grind (arith, nat_tests) in
+      accepts st _ _ _ refl (reaches st _ p 1 (put_places _ _ _ h.place) (same_sheets _ _) (same_rows _) (omega arith)) tt)))
     where
       step : Decision (ℕ × ℕ) → Step V
       step d = by_decision st (Call.Decide p) (λ commit. did_decide p commit.0 commit.1) d
 
-      turned_down : Fault → Decision (ℕ × ℕ)
-      turned_down fault = record { answer = Err fault; places = st.tables.places; counter = st.counter }
-
-      taken : Place → Decision (ℕ × ℕ)
-      taken pl =
-          record {
-            answer = Ok (pl.ts, count_of st.counter + 1);
-            places = put_place st.tables.places p (moved_to 4 pl);
-            counter = count_of st.counter + 1;
-          }
-
-      by_tests : (pl : Place) → Here st (Call.Decide p) pl → (left full : Bool) → eqb (count_of st.counter) 999999 ≡ full
-          → Fine st (Call.Decide p) (step (cond left (turned_down (fault_of Unchecked p 0 0)) (cond full (turned_down (fault_of DayFull p 0 0)) (taken pl))))
-      by_tests pl h true full is = stays st _ _ refl
-      by_tests pl h false true is = stays st _ _ refl
-      by_tests pl h false false is =
-          let below : count_of st.counter ≡ 999999 → ⊥ = grind (arith, nat_tests) in
-          accepts st _ _ _ refl (reaches st _ p 1 (put_places _ _ _ h.place) (same_sheets _ _) (same_rows _) (omega arith)) tt
-
-      go : (r : Result Place Fault) → at_first st (Call.Decide p) 6 0 ≡ r → Fine st (Call.Decide p) (step (deciding_at st.tables.places st.counter p r))
-      go (Err fault) is = stays st _ fault (entry_fault 6 _ _ _ 0 fault is)
-      go (Ok pl) is = by_tests pl (let_in st (Call.Decide p) 6 0 pl is) (ltb (cursor_of pl) (used_of pl)) _ refl
+      Ends : Decision (ℕ × ℕ) → Type 0
+      Ends d = Fine st (Call.Decide p) (step d)
 
   -- ---- read
 
@@ -312,19 +226,14 @@ module _ {V : Type 0} where
       read_row room (Err fault) is = stays st _ _ (look_fault _ key fault is)
       read_row room (Ok row) is = accepts st _ _ _ refl (reaches st _ p 0 (put_places _ _ _ h.place) (put_sheets p _ _ _ room) (same_rows _) (omega arith)) tt
 
-      read_new : (full : Bool) → eqb (used_of pl) 16 ≡ full
-          → ReadFine (cond full (away st.tables (fault_of SheetFull p key 0)) (reading_row st.tables p key pl (looked st.tables.home key)))
-      read_new true is = stays st _ _ refl
-      read_new false is = read_row (grind (arith, nat_tests)) _ refl
-
       read_sheet : (o : Option (ℕ × Entry V)) → ReadFine (reading st.tables p key pl o)
       unfolding reading_new
       read_sheet (Some found) = accepts st st _ _ refl (reaches st st p 0 (same_places _ _) (same_sheets _ _) (same_rows _) (omega arith)) tt
-      read_sheet None = read_new _ refl
+      read_sheet None = cond_both (eqb (used_of pl) 16) _ _ ReadFine (λ full. stays st _ _ refl) (λ room. read_row (grind (arith, nat_tests)) _ refl)
 
     fine_read : Fine st (Call.Read p key) (stepped st (Call.Read p key))
     unfolding stepped read_call
-    fine_read = fine_entry st (Call.Read p key) (λ value. did_read p key value) 2 key _ (λ pl h. read_sheet pl h _) _ refl
+    fine_read = fine_entry st (Call.Read p key) (λ value. did_read p key value) 2 key _ (λ pl h. read_sheet pl h _)
 
   -- ---- write
 
@@ -343,51 +252,35 @@ module _ {V : Type 0} where
       write_version at low (Some wts) = turns_away st (Call.Write p key value) pl h.place h.was (fault_of MovedOn p key wts)
       write_version at low None = write_hold at pl.used low _
 
-      write_known : (at : ℕ) (e : Entry V) → at < 16 → (written : Bool)
-          → WriteFine (cond written (rewriting st.tables p pl at e value) (comparing_at st.tables p key value pl at e.wts))
-      unfolding comparing_at
-      write_known at e low true = accepts st _ _ _ refl (reaches st _ p 0 (same_places _ _) (put_sheets p _ _ _ low) (same_rows _) (omega arith)) tt
-      write_known at e low false = write_version at low _
-
-      write_new : (full : Bool) → eqb (used_of pl) 16 ≡ full
-          → WriteFine (cond full (away st.tables (fault_of SheetFull p key 0)) (holding_at st.tables p key value pl (used_of pl) (used_of pl + 1)))
-      unfolding holding_at
-      write_new true is = stays st _ _ refl
-      write_new false is = write_hold (used_of pl) (used_of pl + 1) (grind (arith, nat_tests)) _
-
       write_sheet : (o : Option (ℕ × Entry V)) → sought key 0 (sheet p (used_of pl) st.tables.entries) ≡ o → WriteFine (writing st.tables p key value pl o)
+      unfolding holding_at comparing_at
       write_sheet (Some found) is =
-          let low = (sought_found key _ found.0 found.1 is).3 in
           let size = sheet_length p (used_of pl) st.tables.entries h.place (omega arith) h.long in
-          write_known found.0 found.1 (omega arith) found.1.written
-      write_sheet None is = write_new _ refl
+          let low : found.0 < 16 = omega (arith, sought_found key _ found.0 found.1 is) in
+          cond_both found.1.written _ _ WriteFine
+          (λ again. accepts st _ _ _ refl (reaches st _ p 0 (same_places _ _) (put_sheets p _ _ _ low) (same_rows _) (omega arith)) tt) (λ read. write_version found.0 low _)
+      write_sheet None is =
+          cond_both (eqb (used_of pl) 16) _ _ WriteFine (λ full. stays st _ _ refl)
+          (λ room. write_hold (used_of pl) (used_of pl + 1) (grind (arith, nat_tests)) _)
 
     fine_write : Fine st (Call.Write p key value) (stepped st (Call.Write p key value))
     unfolding stepped write_call
-    fine_write = fine_entry st (Call.Write p key value) (λ ts. did_write p key value ts) 3 key _ (λ pl h. write_sheet pl h _ refl) _ refl
+    fine_write = fine_entry st (Call.Write p key value) (λ ts. did_write p key value ts) 3 key _ (λ pl h. write_sheet pl h _ refl)
 
   -- ---- the entry at the cursor
-
-  none_past : (es : List (Entry V)) (c : ℕ) → slice_get es c ≡ None → length es ≤ c
-  none_past [] c is = omega arith
-  none_past (e ∷ es) zero is = absurd (let z : ◌≡◌ {A = ℕ} 0 1 = cc in omega arith)
-  none_past (e ∷ es) (suc c) is = let h = none_past es c is in omega arith
 
   module _ (st : Store V) (call : Call V) (pl : Place) (h : Here st call pl) where
     cursor_low : (e : Entry V) → at_cursor st.tables.entries (place_of call) pl ≡ Some e → cursor_of pl < used_of pl
     cursor_low e is =
-        let low = nth_below _ (cursor_of pl) e is in
-        let size = sheet_length (place_of call) (used_of pl) st.tables.entries h.place (omega arith) h.long in
-        omega arith
+        let low = slice_get_within _ (cursor_of pl) e is in
+        omega (arith, sheet_length (place_of call) (used_of pl) st.tables.entries h.place (omega arith) h.long)
 
     cursor_past : at_cursor st.tables.entries (place_of call) pl ≡ None → cursor_of pl ≡ used_of pl
     cursor_past is =
-        let past = none_past _ (cursor_of pl) is in
-        let size = sheet_length (place_of call) (used_of pl) st.tables.entries h.place (omega arith) h.long in
-        omega arith
+        grind (arith, slice_get_cases (sheet (place_of call) (used_of pl) st.tables.entries) (cursor_of pl), sheet_length (place_of call) (used_of pl) st.tables.entries h.place (omega arith) h.long)
 
     goes_to : (new : Place) → slice_get (put_place st.tables.places (place_of call) new) (place_of call - 1) ≡ Some new
-    goes_to new = nth_set_same st.tables.places (place_of call - 1) new ∙ ap (λ o. over o new) h.was
+    goes_to new = nth_set_same st.tables.places (place_of call - 1) new h.was
 
     -- The place goes on, and the entry at the cursor may be altered.
     handles : (e : Entry V) → at_cursor st.tables.entries (place_of call) pl ≡ Some e → (home : Meaning V) (entries : List (Entry V))
@@ -395,8 +288,7 @@ module _ {V : Type 0} where
         → Handled st (record { tables = tables home (put_place st.tables.places (place_of call) (onward pl)) entries; counter = st.counter })
         (place_of call) (left_after pl)
     handles e is home entries others =
-        let low = cursor_low e is in
-        record { place = pl; was = h.was; goes = goes_to (onward pl); counted = omega arith; others = others }
+        record { place = pl; was = h.was; goes = goes_to (onward pl); counted = omega (arith, cursor_low e is); others = others }
 
   -- ---- renew
 
@@ -412,21 +304,19 @@ module _ {V : Type 0} where
           accepts st _ _ _ refl (reaches st _ p 0 (put_places _ _ _ h.place) (put_sheets p _ _ _ (omega arith)) (put_rows _ e.key row) (omega arith))
           (handles st (Call.Renew p) pl h e is _ _ (λ i apart. nth_set_other st.tables.entries (base_of p + cursor_of pl) i _ apart))
 
-      renew_entry : (e : Entry V) → at_cursor st.tables.entries p pl ≡ Some e → (kept : Bool)
-          → RenewFine (cond kept (moving st.tables p (left_after pl) (onward pl)) (renewing_at st.tables p pl e))
-      unfolding renewing_at
-      renew_entry e is true =
-          accepts st _ _ _ refl (reaches st _ p 0 (put_places _ _ _ h.place) (same_sheets p _) (same_rows _) (omega arith))
-          (handles st (Call.Renew p) pl h e is _ _ (λ i apart. refl))
-      renew_entry e is false = renew_row e is _
-
       renew_cursor : (o : Option (Entry V)) → at_cursor st.tables.entries p pl ≡ o → RenewFine (renewing st.tables p pl o)
+      unfolding renewing_at
       renew_cursor None is = stays st _ _ refl
-      renew_cursor (Some e) is = renew_entry e is _
+      renew_cursor (Some e) is =
+          cond_both (e.written || leb pl.ts e.rts) _ _ RenewFine
+          (λ kept.
+          accepts st _ _ _ refl (reaches st _ p 0 (put_places _ _ _ h.place) (same_sheets p _) (same_rows _) (omega arith))
+          (handles st (Call.Renew p) pl h e is _ _ (λ i apart. refl)))
+          (λ short. renew_row e is _)
 
     fine_renew : Fine st (Call.Renew p) (stepped st (Call.Renew p))
     unfolding stepped renew_call
-    fine_renew = fine_entry st (Call.Renew p) (λ left. did_renew p left) 5 0 _ (λ pl h. renew_cursor pl h _ refl) _ refl
+    fine_renew = fine_entry st (Call.Renew p) (λ left. did_renew p left) 5 0 _ (λ pl h. renew_cursor pl h _ refl)
 
   -- ---- settle
 
@@ -442,24 +332,19 @@ module _ {V : Type 0} where
           accepts st _ _ _ refl (reaches st _ p 0 (put_places _ _ _ h.place) (same_sheets p _) (put_rows _ e.key row) (omega arith))
           (handles st (Call.Settle p) pl h e is _ _ (λ i apart. refl))
 
-      settle_entry : (e : Entry V) → at_cursor st.tables.entries p pl ≡ Some e → (written : Bool)
-          → SettleFine (cond written
-          (settling_row st.tables p pl e (changed st.tables.home e.key (ending p pl e)))
-          (moving st.tables p (left_after pl, false) (onward pl)))
-      settle_entry e is true = settle_row e is _ refl
-      settle_entry e is false =
-          accepts st _ _ _ refl (reaches st _ p 0 (put_places _ _ _ h.place) (same_sheets p _) (same_rows _) (omega arith))
-          (handles st (Call.Settle p) pl h e is _ _ (λ i apart. refl))
-
       settle_cursor : (o : Option (Entry V)) → at_cursor st.tables.entries p pl ≡ o → SettleFine (settling st.tables p pl o)
       settle_cursor None is =
           accepts st _ _ _ refl (reaches st _ p 0 (put_places _ _ _ h.place) (same_sheets p _) (same_rows _) (omega arith))
           (record { place = pl; was = h.was; goes = goes_to st (Call.Settle p) pl h (freed pl); counted = (refl, cursor_past st (Call.Settle p) pl h is) })
-      settle_cursor (Some e) is = settle_entry e is _
+      settle_cursor (Some e) is =
+          cond_both e.written _ _ SettleFine (λ written. settle_row e is _ refl)
+          (λ read.
+          accepts st _ _ _ refl (reaches st _ p 0 (put_places _ _ _ h.place) (same_sheets p _) (same_rows _) (omega arith))
+          (handles st (Call.Settle p) pl h e is _ _ (λ i apart. refl)))
 
     fine_settle : Fine st (Call.Settle p) (stepped st (Call.Settle p))
     unfolding stepped settle_call
-    fine_settle = fine_entry st (Call.Settle p) (λ answer. did_settle p answer.0 answer.1) 7 0 _ (λ pl h. settle_cursor pl h _ refl) _ refl
+    fine_settle = fine_entry st (Call.Settle p) (λ answer. did_settle p answer.0 answer.1) 7 0 _ (λ pl h. settle_cursor pl h _ refl)
 
   -- ---- every call
 

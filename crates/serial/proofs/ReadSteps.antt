@@ -1,27 +1,27 @@
 -- read: of a key in the sheet, and of a new one.
-use Rattle.std.proofs.Common.{◌≡◌, ℕ, ◌+◌, ◌-◌, ◌<◌, ◌≤◌, max, Bool, true, false, cond, eqb, leb, List, [], ◌∷◌, ◌++◌, length, drop, Some, None, Ok, Err, Option, Result, sym, refl, ap, ◌∙◌, subst, arith}
+use Rattle.std.proofs.Common.{◌≡◌, ℕ, ◌+◌, ◌-◌, ◌<◌, ◌≤◌, max, Bool, true, false, cond, eqb, leb, List, [], ◌∷◌, ◌++◌, length, Some, None, Ok, Err, Option, Result, sym, refl, ap, ◌∙◌, subst, arith, length-set}
 use lib.Seq.{set-get_or}
 use Rattle.std.specs.List.{slice_get}
+use Rattle.std.proofs.lemmas.Option.{slice_get_cases, slice_get_within}
+use Rattle.std.proofs.lemmas.Bool.{cond_both}
 use Rattle.std.proofs.lemmas.Bool.Decides.{nat_tests}
 use Rattle.std.proofs.lemmas.List.{length_push}
 use Rattle.home.specs.declared.fault.Fault.{Fault}
-use Rattle.home.specs.declared.fault.Refusal.TheVariants.{SheetFull}
 use Rattle.home.specs.declared.row.Row.{Row}
-use Rattle.home.specs.Meaning.{Meaning, is_place, looked, raised}
+use Rattle.home.specs.Meaning.{Meaning, is_place, looked}
 use Rattle.coordinator.specs.declared.call.Call.{Call}
 use Rattle.coordinator.specs.declared.tables.Place.{Place}
 use Rattle.coordinator.specs.declared.tables.Entry.{Entry}
-use Rattle.coordinator.specs.Tables.{entered, fault_of, put_entry, sheet, sought, used_of}
-use Rattle.coordinator.specs.Calls.{Did, by_entry, read_call, reading, reading_new, reading_row, refused as away}
-use Rattle.serial.specs.Events.{Event, Store, Step, by_did, did_read, stepped}
+use Rattle.coordinator.specs.Tables.{put_entry, sheet, sought, used_of, base_of}
+use Rattle.coordinator.specs.Calls.{Did, read_call, reading, reading_new, reading_row}
+use Rattle.serial.specs.Events.{Event, Store, by_did, did_read, stepped}
 use Rattle.serial.specs.Transactions.{Live, Op, among, doing, is_some, keys_of, last_write, live, noted, pending_write, reads, serial_order, when, unsettled_write}
-use Rattle.serial.proofs.Run.{Sees, along, along_unwritten, along_written, among_noted, sees_skip, value_upto, written_among}
-use Rattle.serial.proofs.Seats.{blank, entered_ok, length_put_entry, place_at, sheet_other, sheet_push}
-use Rattle.serial.proofs.Keys.{found, found_among, found_pushed, found_unpushed, keyed, keyed_push, sought_found, sought_none}
-use Rattle.serial.proofs.Invariant.{Alike, Busy, Inv, KeyOk, LeaseOk, Seat, Seated, Stake, by_place, engaged, seat_of, stake_alike, undecided, won_alike, write_of}
-use Rattle.serial.proofs.Moves.{inv_moves, inv_refused, moved, moved_state, other_place, same_place, seat_in}
+use Rattle.serial.proofs.Run.{Sees, along, along_unwritten, along_written, among_noted, never_written, sees_skip, value_upto, when_none, written_among, open_is_last}
+use Rattle.serial.proofs.Seats.{blank, place_at, sheet_other, sheet_push, sheet_set}
+use Rattle.serial.proofs.Keys.{found, found_pushed, found_unpushed, keyed, keyed_push, sought_found, sought_none, found_set, keyed_set}
+use Rattle.serial.proofs.Invariant.{Alike, Busy, Inv, KeyOk, LeaseOk, Seat, Seated, Stake, by_place, engaged, seat_of, stake_alike, undecided, won_alike, write_of, met, wrote, KeyIn, StakeIn, its_apart}
+use Rattle.serial.proofs.Moves.{Kept, entry_kept, inv_moves, inv_refused, moved_state, seat_in, stakes_but}
 use Rattle.serial.proofs.Turns.{same_entries}
-use Rattle.serial.proofs.Changes.{won_open}
 
 pub known_keys : (k : ℕ) (ks : List ℕ) → among k ks ≡ true → noted k ks ≡ ks
 known_keys k ks is = ap (λ b. cond b ks (ks ++ k ∷ [])) is
@@ -29,21 +29,9 @@ known_keys k ks is = ap (λ b. cond b ks (ks ++ k ∷ [])) is
 pub new_keys : (k : ℕ) (ks : List ℕ) → among k ks ≡ false → noted k ks ≡ ks ++ k ∷ []
 new_keys k ks is = ap (λ b. cond b ks (ks ++ k ∷ [])) is
 
-pub when_none : {V : Type 0} (b : Bool) → when {V = V} b None ≡ None
-when_none true = refl
-when_none false = refl
-
 -- ---- writes of a transaction that has settled nothing
 
 module _ {V : Type 0} where
-  -- Until the first settle every write is open.
-  pub open_is_last : (k : ℕ) (l : Live V) → l.handled ≡ 0 → pending_write k l ≡ last_write k l.ops
-  open_is_last k l none = ap (λ n. when (among k (drop n (keys_of l.ops))) (last_write k l.ops)) none ∙ go (last_write k l.ops) refl
-    where
-      go : (o : Option V) → last_write k l.ops ≡ o → when (among k (keys_of l.ops)) (last_write k l.ops) ≡ last_write k l.ops
-      go (Some v) is = ap (λ b. when b (last_write k l.ops)) (written_among k l.ops v is)
-      go None is = ap (when (among k (keys_of l.ops))) is ∙ when_none (among k (keys_of l.ops)) ∙ sym is
-
   -- A read leaves the open writes as they are.
   pub open_read : (j k : ℕ) (v : V) (l : Live V) → l.handled ≡ 0 → pending_write j (doing (reads k v) l) ≡ pending_write j l
   open_read j k v l none = open_is_last j (doing (reads k v) l) none ∙ sym (open_is_last j l none)
@@ -57,6 +45,13 @@ module _ {V : Type 0} where
 
   -- ---- an open place
 
+  -- Its sheet with the entry e under the key k, and all else as before.
+  pub record Grown (k : ℕ) (s : Seat V) (sh : List (Entry V)) (e : Entry V) (used : ℕ) : Type 0 where
+    pub sized : length sh ≡ used
+    pub keys : keyed sh ≡ noted k (keys_of s.live.ops)
+    pub first : found k sh ≡ Some e
+    pub others : (j : ℕ) → (j ≡ k → ⊥) → found j sh ≡ found j s.sheet
+
   module _ (x : ℕ → Option V) (es : List (Event V)) (st : Store V) (p : ℕ) (i : Inv x es st) (at : is_place p ≡ true) (open' : (place_at st.tables.places p).state ≡ 1) where
     abbrev here : Place
     here = place_at st.tables.places p
@@ -68,10 +63,10 @@ module _ {V : Type 0} where
     is_busy = (i.seated p at).busy (grind (arith, nat_tests))
 
     pub none_handled : (live p es).handled ≡ 0
-    none_handled = let h = is_busy.handled in grind (arith, nat_tests)
+    none_handled = grind (arith, nat_tests)
 
     pub not_decided : (live p es).decided ≡ false
-    not_decided = let h = is_busy.decided in grind (arith, nat_tests)
+    not_decided = grind (arith, nat_tests)
 
     pub no_win : (k : ℕ) → unsettled_write k (live p es) ≡ None
     no_win k = ap (λ b. when b (pending_write k (live p es))) not_decided
@@ -79,17 +74,42 @@ module _ {V : Type 0} where
     is_undecided : undecided here ≡ true
     is_undecided = grind (arith, nat_tests)
 
+    -- one entry more, of a new key
+    pub pushed : (n : ℕ) (e : Entry V) → n ≡ used_of here + 1 → found e.key now_seat.sheet ≡ None → used_of here < 16
+        → Grown e.key now_seat (sheet p n (put_entry st.tables.entries p (used_of here) e)) e (used_of here + 1)
+    pushed n e more unknown room =
+        subst (λ sh. Grown e.key now_seat sh e (used_of here + 1))
+        (sym (ap (λ m. sheet p m (put_entry st.tables.entries p (used_of here) e)) more ∙ sheet_push p (used_of here) st.tables.entries e at room i.long))
+        (record {
+          sized = length_push now_seat.sheet e ∙ omega (arith, is_busy);
+          keys = keyed_push now_seat.sheet e ∙ ap (λ ks. ks ++ e.key ∷ []) is_busy.keys ∙ sym (new_keys e.key (keys_of (live p es).ops) (met is_busy e.key unknown));
+          first = found_pushed now_seat.sheet e unknown;
+          others = found_unpushed now_seat.sheet e;
+        })
+
+    -- one entry stored again, under its key
+    pub stored : (n : ℕ) (e new : Entry V) → slice_get now_seat.sheet n ≡ Some e → found e.key now_seat.sheet ≡ Some e → new.key ≡ e.key → (k : ℕ) → e.key ≡ k
+        → Grown k now_seat (sheet p (used_of here) (put_entry st.tables.entries p n new)) new here.used
+    stored n e new is known same k key =
+        let low = slice_get_within now_seat.sheet n e is in
+        let again = found_set now_seat.sheet n e new is same (its_apart is_busy) in
+        subst (λ j. Grown j now_seat (sheet p (used_of here) (put_entry st.tables.entries p n new)) new here.used) key
+        (subst (λ sh. Grown e.key now_seat sh new here.used) (sym (sheet_set p n (used_of here) st.tables.entries new at (omega (arith, is_busy, low)) (omega arith)))
+        (record {
+          sized = length-set now_seat.sheet n new ∙ is_busy.sized;
+          keys = keyed_set now_seat.sheet n e new is same ∙ is_busy.keys ∙ sym (known_keys e.key (keys_of (live p es).ops) (met is_busy e.key known));
+          first = again.0;
+          others = again.1;
+        }))
+
     -- ---- a key in the sheet
 
     module _ (k : ℕ) (e : Entry V) (known : found k now_seat.sheet ≡ Some e) where
       abbrev after : Live V
       after = doing (reads k e.value) (live p es)
 
-      among_known : among k (keys_of (live p es).ops) ≡ true
-      among_known = ap (among k) (sym is_busy.keys) ∙ sym (found_among k now_seat.sheet) ∙ ap is_some known
-
       keys_known : keys_of after.ops ≡ keys_of (live p es).ops
-      keys_known = known_keys k (keys_of (live p es).ops) among_known
+      keys_known = known_keys k (keys_of (live p es).ops) (met is_busy k known)
 
       busy_known : Busy (seat_in p here st.tables.entries after)
       busy_known =
@@ -97,25 +117,25 @@ module _ {V : Type 0} where
           record { few = b.few; within = b.within; sized = b.sized; keys = b.keys ∙ sym keys_known; writes = b.writes; decided = b.decided; handled = b.handled; passed = b.passed }
 
       -- what was read last is what the transaction has
-      stake_known : (row : Row V) (won : Option (V × ℕ)) → Stake k (x k) row (serial_order es) won p now_seat → Stake k (x k) row (serial_order es) won p (seat_in p here st.tables.entries after)
+      stake_known : (row : Row V) (won : Option (V × ℕ)) → StakeIn x es k row won p now_seat → StakeIn x es k row won p (seat_in p here st.tables.entries after)
       stake_known row won old =
           record {
             owner = old.owner ∙ ap is_some (sym (open_read k k e.value (live p es) none_handled));
             seen = λ u f is unwritten.
                 let o = old.seen u f is unwritten in
                 let same : e ≡ f = cc in
-                let w = is_busy.writes k f is ∙ ap (λ b. cond b (Some f.value) None) unwritten in
+                let w = wrote is_busy k f is unwritten in
                 record { fair = o.fair; begins = o.begins; ends = o.ends; value = o.value; sees = (o.sees, λ _. along_unwritten k (live p es).ops w (Some f.value) ∙ ap (λ (g : Entry V). Some g.value) (sym same)) };
             holds = λ u is. held_known row (old.holds u (ap is_some (sym (open_read k k e.value (live p es) none_handled)) ∙ is)) (ap is_some (sym (open_is_last k after none_handled)) ∙ is);
-            wins = λ v is. absurd (let d = (won_open k after v is).0 in let n = not_decided in let z : ◌≡◌ {A = ℕ} 0 1 = grind (arith, nat_tests) in omega arith);
+            wins = λ v is. grind (arith, nat_tests, not_decided);
           }
         where
           held_known : (row : Row V) → Rattle.serial.proofs.Invariant.HoldOk k row now_seat → is_some (last_write k (live p es).ops) ≡ true → Rattle.serial.proofs.Invariant.HoldOk k row (seat_in p here st.tables.entries after)
           held_known row o is = record { above = o.above; sees = (o.sees, λ _. written e.written refl) }
             where
               written : (b : Bool) → e.written ≡ b → along k (Some row.value) (live p es).ops ≡ Some e.value
-              written true w = along_written k (live p es).ops e.value (is_busy.writes k e known ∙ ap (λ c. cond c (Some e.value) None) w) row.value
-              written false w = absurd (let l = is_busy.writes k e known ∙ ap (λ c. cond c (Some e.value) None) w in let n = sym (ap is_some l) ∙ is in let z : ◌≡◌ {A = ℕ} 0 1 = cc in omega arith)
+              written true w = along_written k (live p es).ops e.value (wrote is_busy k e known w) row.value
+              written false w = cc (ap is_some (wrote is_busy k e known w))
 
       alike_known : (j : ℕ) → (j ≡ k → ⊥) → Alike j now_seat (seat_in p here st.tables.entries after)
       alike_known j apart =
@@ -125,10 +145,10 @@ module _ {V : Type 0} where
       read_known =
           subst (λ (s : Store V). Inv x (did_read p k e.value ∷ es) s) (same_state st p)
           (inv_moves x es st (did_read p k e.value) p here st.tables.entries after i (record { order = refl; grants = refl; put = refl; freed = refl }) at refl
-          (moved st es (did_read p k e.value ∷ es) st.tables.home st.counter p here st.tables.entries after at i.many (same_entries p st.tables.entries) (same_place p after (live p es)) (λ q apart. other_place p q (doing (reads k e.value) (live q es)) (live q es) apart))
+          (same_entries p st.tables.entries) (grind (arith, nat_tests)) (λ q apart. grind (arith, nat_tests))
           (record {
-            seated = record { free = λ no'. absurd (let z : ◌≡◌ {A = ℕ} 0 1 = grind (arith, nat_tests) in omega arith); busy = λ _. busy_known };
-            stakes = λ j row won is ok. by_place (λ m. Stake m (x m) row (serial_order es) won p now_seat → Stake m (x m) row (serial_order es) won p (seat_in p here st.tables.entries after)) k j (stake_known row won) (λ apart old. stake_alike j (x j) row (serial_order es) won p now_seat (seat_in p here st.tables.entries after) (alike_known j apart) old) (ok.stakes p at);
+            seated = record { free = λ no'. grind (arith, nat_tests); busy = λ _. busy_known };
+            stakes = stakes_but x es st at k (λ row won _ ok. stake_known row won (ok.stakes p at)) alike_known;
             wins = λ j. ap (when (live p es).decided) (open_read j k e.value (live p es) none_handled);
             fresh = λ j is was. ap (among j) keys_known ∙ was;
           }))
@@ -152,45 +172,33 @@ module _ {V : Type 0} where
       new_seat = seat_in p place' entries' reader
 
       not_among : among k (keys_of (live p es).ops) ≡ false
-      not_among = ap (among k) (sym is_busy.keys) ∙ sym (found_among k now_seat.sheet) ∙ ap is_some unknown
+      not_among = met is_busy k unknown
 
-      new_sheet : new_seat.sheet ≡ now_seat.sheet ++ (entry ∷ [])
-      new_sheet =
-          let one : used_of place' ≡ used_of here + 1 = omega arith in
-          ap (λ n. sheet p n entries') one ∙ sheet_push p (used_of here) st.tables.entries entry at room i.long
-
-      found_here : found k new_seat.sheet ≡ Some entry
-      found_here = ap (found k) new_sheet ∙ found_pushed now_seat.sheet entry unknown
-
-      found_there : (j : ℕ) → (j ≡ k → ⊥) → found j new_seat.sheet ≡ found j now_seat.sheet
-      found_there j apart = ap (found j) new_sheet ∙ found_unpushed now_seat.sheet entry j apart
+      grown : Grown k now_seat new_seat.sheet entry (used_of here + 1)
+      grown = pushed (used_of place') entry (omega arith) unknown room
 
       unwritten : last_write k (live p es).ops ≡ None
-      unwritten = go (last_write k (live p es).ops) refl
-        where
-          go : (o : Option V) → last_write k (live p es).ops ≡ o → last_write k (live p es).ops ≡ None
-          go None is = is
-          go (Some v) is = absurd (let w = written_among k (live p es).ops v is in let n = not_among in let z : ◌≡◌ {A = ℕ} 0 1 = grind (arith, nat_tests) in omega arith)
+      unwritten = never_written k (live p es).ops not_among
 
       busy_new : Busy new_seat
       busy_new =
           let b = is_busy in
-          let f = b.few in
-          let c = b.within in
-          let z = b.sized in
           record {
             few = omega arith;
             within = omega arith;
-            sized = ap length new_sheet ∙ length_push now_seat.sheet entry ∙ (omega arith);
-            keys = ap keyed new_sheet ∙ keyed_push now_seat.sheet entry ∙ ap (λ ks. ks ++ k ∷ []) b.keys ∙ sym (new_keys k (keys_of (live p es).ops) not_among);
-            writes = λ j e is. by_place (λ m. found m new_seat.sheet ≡ Some e → last_write m (live p es).ops ≡ write_of e) k j (λ is. let same : entry ≡ e = cc (found_here) in unwritten ∙ ap write_of same) (λ apart is. b.writes j e (sym (found_there j apart) ∙ is)) is;
+            sized = grown.sized;
+            keys = grown.keys;
+            writes = λ j e is.
+                by_place (λ m. found m new_seat.sheet ≡ Some e → last_write m (live p es).ops ≡ write_of e) k j
+                (λ is. let same : entry ≡ e = cc (grown.first) in unwritten ∙ ap write_of same)
+                (λ apart is. b.writes j e (sym (grown.others j apart) ∙ is)) is;
             decided = b.decided;
             handled = b.handled;
             passed = λ frozen j e below is no'. absurd (omega arith);
           }
 
       -- the row's lease is one under which its value stands
-      lease_new : (won : Option (V × ℕ)) → KeyOk k (x k) row (serial_order es) (seat_of st es) won → LeaseOk k (x k) row (serial_order es) new_seat entry
+      lease_new : (won : Option (V × ℕ)) → KeyIn x es st k row won → LeaseOk k (x k) row (serial_order es) new_seat entry
       lease_new won ok =
           record {
             fair = ok.fair;
@@ -204,13 +212,13 @@ module _ {V : Type 0} where
           go None τ upto above = refl
           go (Some w) τ upto above = let late : leb w.1 τ ≡ false = grind (arith, nat_tests) in ap (λ b. cond b w.0 row.value) late
 
-      stake_new : (won : Option (V × ℕ)) → KeyOk k (x k) row (serial_order es) (seat_of st es) won → Stake k (x k) row (serial_order es) won p new_seat
+      stake_new : (won : Option (V × ℕ)) → KeyIn x es st k row won → StakeIn x es k row won p new_seat
       stake_new won ok =
           record {
             owner = (ok.stakes p at).owner ∙ ap is_some (sym (open_read k k row.value (live p es) none_handled));
-            seen = λ u e is no'. let same : entry ≡ e = cc (found_here) in subst (LeaseOk k (x k) row (serial_order es) new_seat) same (lease_new won ok);
-            holds = λ u is. absurd (let o = ap is_some (open_is_last k reader none_handled ∙ unwritten) in let z : ◌≡◌ {A = ℕ} 0 1 = cc in omega arith);
-            wins = λ v is. absurd (let d = (won_open k reader v is).0 in let n = not_decided in let z : ◌≡◌ {A = ℕ} 0 1 = grind (arith, nat_tests) in omega arith);
+            seen = λ u e is no'. let same : entry ≡ e = cc (grown.first) in subst (LeaseOk k (x k) row (serial_order es) new_seat) same (lease_new won ok);
+            holds = λ u is. absurd (cc (ap is_some (open_is_last k reader none_handled ∙ unwritten)));
+            wins = λ v is. absurd (grind (arith, nat_tests));
           }
 
       alike_new : (j : ℕ) → (j ≡ k → ⊥) → Alike j now_seat new_seat
@@ -219,61 +227,53 @@ module _ {V : Type 0} where
             write = open_read j k row.value (live p es) none_handled;
             decided = refl;
             undecided = λ u. u;
-            entry = found_there j apart;
+            entry = grown.others j apart;
             later = omega arith;
-            same = λ d. absurd (let n = not_decided in let z : ◌≡◌ {A = ℕ} 0 1 = grind (arith, nat_tests) in omega arith);
+            same = λ d. absurd (grind (arith, nat_tests));
             sees = λ y s. sees_other j k row.value y (live p es).ops apart s;
           }
 
       pub read_new : slice_get st.tables.home.rows k ≡ Some row → Inv x (did_read p k row.value ∷ es) (moved_state st st.tables.home st.counter p place' entries')
       read_new is =
-          inv_moves x es st (did_read p k row.value) p place' entries' reader i (record { order = refl; grants = refl; put = refl; freed = refl }) at (length_put_entry st.tables.entries p (used_of here) entry)
-          (moved st es (did_read p k row.value ∷ es) st.tables.home st.counter p place' entries' reader at i.many (λ q n is' apart few. sheet_other p q (used_of here) n st.tables.entries entry at is' apart room few) (same_place p reader (live p es)) (λ q apart. other_place p q (doing (reads k row.value) (live q es)) (live q es) apart))
+          inv_moves x es st (did_read p k row.value) p place' entries' reader i (record { order = refl; grants = refl; put = refl; freed = refl }) at
+          (length-set st.tables.entries (base_of p + (used_of here)) entry) (λ q n is' apart few. sheet_other p q (used_of here) n st.tables.entries entry at is' apart room few)
+          (grind (arith, nat_tests)) (λ q apart. grind (arith, nat_tests))
           (record {
-            seated = record { free = λ no'. absurd (let z : ◌≡◌ {A = ℕ} 0 1 = grind (arith, nat_tests) in omega arith); busy = λ _. busy_new };
-            stakes = λ j r won here' ok. by_place (λ m. slice_get st.tables.home.rows m ≡ Some r → KeyOk m (x m) r (serial_order es) (seat_of st es) won → Stake m (x m) r (serial_order es) won p new_seat) k j (λ h ok. let same : row ≡ r = cc in subst (λ (o : Row V). KeyOk k (x k) o (serial_order es) (seat_of st es) won → Stake k (x k) o (serial_order es) won p new_seat) same (stake_new won) ok) (λ apart h ok. stake_alike j (x j) r (serial_order es) won p now_seat new_seat (alike_new j apart) (ok.stakes p at)) here' ok;
+            seated = record { free = λ no'. grind (arith, nat_tests); busy = λ _. busy_new };
+            stakes = stakes_but x es st at k
+                (λ r won h ok. let same : row ≡ r = cc in subst (λ (o : Row V). KeyIn x es st k o won → StakeIn x es k o won p new_seat) same (stake_new won) ok)
+                alike_new;
             wins = λ j. ap (when (live p es).decided) (open_read j k row.value (live p es) none_handled);
-            fresh = λ j none was. by_place (λ m. slice_get st.tables.home.rows m ≡ None → among m (keys_of (live p es).ops) ≡ false → among m (keys_of reader.ops) ≡ false) k j (λ gone was. absurd (let z : ◌≡◌ {A = ℕ} 0 1 = cc in omega arith)) (λ apart none was. among_noted j k (keys_of (live p es).ops) ∙ (grind (arith, nat_tests))) none was;
+            fresh = λ j none was.
+                by_place (λ m. slice_get st.tables.home.rows m ≡ None → among m (keys_of (live p es).ops) ≡ false → among m (keys_of reader.ops) ≡ false) k j
+                (λ gone was. cc) (λ apart none was. grind (arith, nat_tests, among_noted j k (keys_of (live p es).ops))) none was;
           })
 
   -- ---- the whole call
 
   pub looked_row : (m : Meaning V) (k : ℕ) (row : Row V) → looked m k ≡ Ok row → slice_get m.rows k ≡ Some row
   unfolding looked
-  looked_row m k row is = go (slice_get m.rows k) is
-    where
-      go : (o : Option (Row V)) → raised 0 k (Rattle.home.specs.Meaning.found o) ≡ Ok row → o ≡ Some row
-      go None is = absurd (let z : ◌≡◌ {A = ℕ} 0 1 = cc in omega arith)
-      go (Some r) is = let same : r ≡ row = cc in ap (λ (o : Row V). Some o) same
+  looked_row m k row is = grind (arith, slice_get_cases m.rows k)
 
   module _ (x : ℕ → Option V) (es : List (Event V)) (st : Store V) (i : Inv x es st) (p k : ℕ) where
+    abbrev ReadKept : Did V V → Type 0
+    ReadKept d = Kept x es (by_did st (Call.Read p k) (λ v. did_read p k v) d)
+
+    abbrev pl : Place
+    pl = place_at st.tables.places p
+
+    module _ (at : is_place p ≡ true) (open' : pl.state ≡ 1) where
+      by_row : found k (seat_of st es p).sheet ≡ None → used_of pl < 16 → (r : Result (Row V) Fault) → looked st.tables.home k ≡ r → ReadKept (reading_row st.tables p k pl r)
+      by_row unknown room (Err fault) is = inv_refused x es st (Call.Read p k) _ i
+      by_row unknown room (Ok row) is = read_new x es st p i at open' k row unknown room (looked_row st.tables.home k row is)
+
+      by_sheet : (o : Option (ℕ × Entry V)) → sought k 0 (seat_of st es p).sheet ≡ o → ReadKept (reading st.tables p k pl o)
+      unfolding reading_new
+      by_sheet (Some f) is = read_known x es st p i at open' k f.1 (sought_found k (seat_of st es p).sheet f.0 f.1 is).2
+      by_sheet None is =
+          cond_both (eqb (used_of pl) 16) _ _ ReadKept (λ full. inv_refused x es st (Call.Read p k) _ i)
+          (λ room. by_row (sought_none k 0 (seat_of st es p).sheet is) (grind (arith, nat_tests)) (looked st.tables.home k) refl)
+
     pub keeps_read : Inv x ((stepped st (Call.Read p k)).event ∷ es) (stepped st (Call.Read p k)).store
-    unfolding stepped read_call reading_new
-    keeps_read = go (entered 2 st.tables.places (length st.tables.entries) p k) refl
-      where
-        step : Did V V → Step V
-        step d = by_did st (Call.Read p k) (λ v. did_read p k v) d
-
-        Kept : Did V V → Type 0
-        Kept d = Inv x ((step d).event ∷ es) (step d).store
-
-        by_row : is_place p ≡ true → (place_at st.tables.places p).state ≡ 1 → found k (seat_of st es p).sheet ≡ None → used_of (place_at st.tables.places p) < 16 → (r : Result (Row V) Fault) → looked st.tables.home k ≡ r → Kept (reading_row st.tables p k (place_at st.tables.places p) r)
-        by_row at open' unknown room (Err fault) is = inv_refused x es st (Call.Read p k) _ i
-        by_row at open' unknown room (Ok row) is = read_new x es st p i at open' k row unknown room (looked_row st.tables.home k row is)
-
-        by_room : is_place p ≡ true → (place_at st.tables.places p).state ≡ 1 → found k (seat_of st es p).sheet ≡ None → (full : Bool) → eqb (used_of (place_at st.tables.places p)) 16 ≡ full → Kept (cond full (away st.tables (fault_of SheetFull p k 0)) (reading_row st.tables p k (place_at st.tables.places p) (looked st.tables.home k)))
-        by_room at open' unknown true is = inv_refused x es st (Call.Read p k) _ i
-        by_room at open' unknown false is = by_row at open' unknown (grind (arith, nat_tests)) (looked st.tables.home k) refl
-
-        by_entry' : is_place p ≡ true → (place_at st.tables.places p).state ≡ 1 → (o : Option (ℕ × Entry V)) → sought k 0 (seat_of st es p).sheet ≡ o → Kept (reading st.tables p k (place_at st.tables.places p) o)
-        by_entry' at open' (Some f) is = read_known x es st p i at open' k f.1 (sought_found k (seat_of st es p).sheet f.0 f.1 is).2
-        by_entry' at open' None is = by_room at open' (sought_none k 0 (seat_of st es p).sheet is) (eqb (used_of (place_at st.tables.places p)) 16) refl
-
-        go : (r : Result Place Fault) → entered 2 st.tables.places (length st.tables.entries) p k ≡ r → Kept (by_entry st.tables (λ pl. reading st.tables p k pl (sought k 0 (sheet p (used_of pl) st.tables.entries))) r)
-        go (Err fault) is = inv_refused x es st (Call.Read p k) fault i
-        go (Ok pl) is =
-            let en = entered_ok 2 st.tables.places (length st.tables.entries) p k pl is in
-            let ok = en.admitted in
-            let same = ap (λ (o : Place). o.state) en.here in
-            subst (λ (o : Place). Kept (reading st.tables p k o (sought k 0 (sheet p (used_of o) st.tables.entries)))) en.here
-            (by_entry' en.place (grind (arith, nat_tests)) (sought k 0 (seat_of st es p).sheet) refl)
+    unfolding stepped read_call
+    keeps_read = entry_kept x es st i (Call.Read p k) (λ v. did_read p k v) 2 p k _ (λ en. by_sheet en.place (grind (arith, nat_tests)) _ refl)

@@ -1,34 +1,30 @@
 -- renew: one entry of a frozen place is passed, and its lease made to reach the transaction's timestamp where it falls short.
-use Rattle.std.proofs.Common.{◌≡◌, ℕ, zero, suc, ◌+◌, ◌<◌, ◌≤◌, Bool, true, false, cond, ◌||◌, eqb, leb, ◌⊎◌, List, [], ◌∷◌, length, set, Some, None, Ok, Err, Option, Result, sym, refl, ap, ◌∙◌, subst, inl, inr, arith, length-set}
+use Rattle.std.proofs.Common.{◌≡◌, ℕ, ◌+◌, ◌<◌, ◌≤◌, true, false, ◌||◌, leb, List, ◌∷◌, length, set, Some, None, Option, sym, refl, ap, ◌∙◌, subst, inl, arith, length-set}
 use Rattle.std.specs.List.{slice_get}
 use Rattle.std.proofs.ByRecursion.{All-weaker}
-use Rattle.std.proofs.lemmas.Bool.Decides.{eqb_tells, nat_tests}
-use Rattle.home.specs.declared.fault.Fault.{Fault}
+use Rattle.std.proofs.lemmas.Bool.{cond_both}
+use Rattle.std.proofs.lemmas.Option.{slice_get_within}
+use Rattle.std.proofs.lemmas.Bool.Decides.{nat_tests}
 use Rattle.home.specs.declared.row.Row.{Row}
 use Rattle.home.specs.declared.row.Change.{Change}
 use Rattle.home.specs.declared.row.Change.TheVariants.{Renew}
 use Rattle.home.specs.Rows.{Outcome, grants, refuses, renew_row}
 use Rattle.home.specs.Meaning.{changed, fault_at, is_place}
-use Rattle.home.proofs.Laws.{granted}
+use Rattle.home.proofs.Laws.{granted, nth_set_other, nth_set_same}
 use Rattle.coordinator.specs.declared.call.Call.{Call}
 use Rattle.coordinator.specs.declared.tables.Place.{Place}
 use Rattle.coordinator.specs.declared.tables.Entry.{Entry}
-use Rattle.coordinator.specs.Tables.{at_cursor, cursor_of, entered, put_entry, sheet, used_of}
-use Rattle.coordinator.specs.Calls.{Did, by_entry, left_after, moving, onward, renew_call, renewing, renewing_at, renewing_row, wish_of}
-use Rattle.serial.specs.Events.{Event, Store, Step, by_did, did_renew, stepped}
+use Rattle.coordinator.specs.Tables.{at_cursor, cursor_of, put_entry, sheet, used_of, base_of}
+use Rattle.coordinator.specs.Calls.{Did, left_after, onward, renew_call, renewing, renewing_at, renewing_row, wish_of}
+use Rattle.serial.specs.Events.{Event, Store, by_did, did_renew, stepped}
 use Rattle.serial.specs.Transactions.{Transaction, last_write, live, serial_order}
-use Rattle.serial.proofs.Run.{nth_set_other, nth_set_same, over, value_upto}
-use Rattle.serial.proofs.Seats.{entered_ok, length_put_entry, place_at, place_range, sheet_other, sheet_set}
-use Rattle.serial.proofs.Keys.{Apart, found, found_set, keyed, keyed_set, keys_apart, nth_found}
-use Rattle.serial.proofs.Invariant.{Busy, Inv, KeyOk, LeaseOk, Moves, Seat, Seated, Stake, by_place, seat_of, undecided, write_of}
-use Rattle.serial.proofs.Moves.{OnlyAt, alike_ok, inv_moves, inv_refused, moved, moved_state, seat_in}
+use Rattle.serial.proofs.Run.{value_upto}
+use Rattle.serial.proofs.Seats.{place_at, place_range, sheet_other, sheet_set}
+use Rattle.serial.proofs.Keys.{found, found_set, keyed, keyed_set, nth_found}
+use Rattle.serial.proofs.Invariant.{Busy, Inv, KeyOk, LeaseOk, Moves, Seat, Seated, Stake, by_place, seat_of, undecided, write_of, all_moved, its_apart, KeyIn, StakeIn}
+use Rattle.serial.proofs.Moves.{Kept, OnlyAt, alike_ok, entry_kept, inv_moves, inv_refused, moved, moved_state, seat_in}
 use Rattle.serial.proofs.Turns.{inv_lost, same_entries}
-use Rattle.serial.proofs.Changes.{free_won, inv_changes, with_row}
-
-nth_low : {A : Type 0} (xs : List A) (j : ℕ) (a : A) → slice_get xs j ≡ Some a → j < length xs
-nth_low [] j a is = absurd (let z : ◌≡◌ {A = ℕ} 0 1 = cc in omega arith)
-nth_low (b ∷ xs) zero a is = omega arith
-nth_low (b ∷ xs) (suc j) a is = let h = nth_low xs j a is in omega arith
+use Rattle.serial.proofs.Changes.{free_won, inv_changes, with_row, lease_kept, stake_absent}
 
 module _ {V : Type 0} where
   -- ---- the row
@@ -57,45 +53,29 @@ module _ {V : Type 0} where
 
   -- ---- a key whose free row has a longer lease
 
-  module _ (k : ℕ) (x : Option V) (row new : Row V) (us : List (Transaction V)) (wts t : ℕ) (r : Renewal wts t row new) where
+  module _ {k : ℕ} {x : Option V} {row new : Row V} {us : List (Transaction V)} {wts t : ℕ} (r : Renewal wts t row new) where
     -- Nobody holds it, so only what was seen is left to show.
     stake_longer : (q : ℕ) → is_place q ≡ true → (s : Seat V) (pl : Place) (es : List (Entry V)) → Stake k x row us None q s
         → (undecided pl ≡ true → (e : Entry V) → found k es ≡ Some e → e.written ≡ false
         → LeaseOk k x new us (record { place = pl; sheet = es; live = s.live }) e)
         → Stake k x new us None q (record { place = pl; sheet = es; live = s.live })
     stake_longer q at s pl es old seen =
-        record {
-          owner = ap (λ h. eqb h q) (r.holder ∙ sym r.free) ∙ old.owner;
-          seen = seen;
-          holds = λ u is.
-              let o = old.owner ∙ is in
-              let f = r.free in
-              let g = place_range q at in
-              absurd (let z : ◌≡◌ {A = ℕ} 0 1 = grind (arith, nat_tests) in omega arith);
-          wins = λ v is. absurd (let w = old.wins v is in let z : ◌≡◌ {A = ℕ} 0 1 = cc in omega arith);
-        }
+        let g = place_range q at in
+        stake_absent (sym old.owner ∙ grind (arith, nat_tests)) (grind (arith, nat_tests)) seen
 
-    stake_other : (q : ℕ) → is_place q ≡ true → (s : Seat V) → Stake k x row us None q s → Stake k x new us None q s
-    stake_other q at s old =
-        stake_longer q at s s.place s.sheet old
-        (λ u e is unwritten.
-        let o = old.seen u e is unwritten in
-        record { fair = o.fair; begins = o.begins; ends = (let a = o.ends in let b = r.longer in omega arith); value = o.value; sees = o.sees })
-
-    key_longer : (seats next : ℕ → Seat V) (p : ℕ) (n : Seat V) → is_place p ≡ true → Moves seats next p n → Stake k x new us None p n
+    key_longer : {seats next : ℕ → Seat V} {p : ℕ} {n : Seat V} → Moves seats next p n → Stake k x new us None p n
         → KeyOk k x row us seats None → KeyOk k x new us next None
-    key_longer seats next p n at m stake old =
+    key_longer {seats} m stake old =
         record {
-          fair = (let a = old.fair in let b = r.longer in let c = r.begins in omega arith);
-          stands = λ τ low. old.stands τ (let c = r.begins in omega arith) ∙ ap (λ (v : V). Some v) (sym r.value);
-          quiet = All-weaker _ _ (λ t h past. h (let b = r.longer in omega arith)) us old.quiet;
+          fair = (let b = r.longer in let c = r.begins in omega arith);
+          stands = λ τ low. old.stands τ (omega arith) ∙ ap (λ (v : V). Some v) (sym r.value);
+          quiet = All-weaker _ _ (λ t h past. h (omega arith)) us old.quiet;
           sees = old.sees;
           above = tt;
-          winner = λ w is. absurd (let z : ◌≡◌ {A = ℕ} 0 1 = cc in omega arith);
-          stakes = λ q at'. by_place (λ o. is_place o ≡ true → Stake k x new us None o (next o)) p q
-              (λ _. subst (Stake k x new us None p) (sym m.here) stake)
-              (λ apart there. subst (Stake k x new us None q) (sym (m.others q there apart)) (stake_other q there (seats q) (old.stakes q there)))
-              at';
+          winner = λ w is. cc;
+          stakes = all_moved m (Stake k x new us None) stake (λ q there _.
+              let was = old.stakes q there in
+              stake_longer q there (seats q) (seats q).place (seats q).sheet was (λ u e is unwritten. lease_kept (was.seen u e is unwritten) r.longer));
           holder = inl r.holder;
         }
 
@@ -118,10 +98,8 @@ module _ {V : Type 0} where
     limits : here.state ≡ 2 → (e : Entry V) → at_cursor st.tables.entries p here ≡ Some e
         → (cursor_of here ≡ here.cursor) × (cursor_of here < used_of here) × (used_of here ≤ 16) × (used_of here ≡ here.used)
     limits frozen e is =
-        let a = (busy frozen).few in
-        let b = (busy frozen).within in
-        let c = (busy frozen).sized in
-        let d = nth_low was (cursor_of here) e is in
+        let b = busy frozen in
+        let d = slice_get_within was (cursor_of here) e is in
         (omega arith, omega arith, omega arith, omega arith)
 
     -- The sheet may have the entry at the cursor anew, under the same key.
@@ -134,7 +112,7 @@ module _ {V : Type 0} where
     seated_onward frozen sh e limited low is reaches sized keys others writes =
         let b = busy frozen in
         record {
-          free = λ no'. absurd (let z : ◌≡◌ {A = ℕ} 0 1 = grind (arith, nat_tests) in omega arith);
+          free = λ no'. grind (arith, nat_tests);
           busy = λ _. record {
             few = b.few;
             within = omega arith;
@@ -142,21 +120,13 @@ module _ {V : Type 0} where
             keys = keys ∙ b.keys;
             writes = writes;
             decided = b.decided;
-            handled = (let h = b.handled in grind (arith, nat_tests));
-            passed = λ _ j f below is' unwritten. go j f below is' unwritten (eqb_tells j (cursor_of here));
+            handled = grind (arith, nat_tests);
+            passed = λ _ j f below is' unwritten.
+                by_place (λ m. m < cursor_of here + 1 → slice_get sh m ≡ Some f → here.ts ≤ f.rts) (cursor_of here) j
+                (λ _ again. let one : e ≡ f = cc in subst (λ (g : Entry V). here.ts ≤ g.rts) one (reaches (ap (λ (g : Entry V). g.written) one ∙ unwritten)))
+                (λ apart below is'. b.passed frozen j f (omega arith) (sym (others j apart) ∙ is') unwritten) below is';
           };
         }
-      where
-        go : (j : ℕ) (f : Entry V) → j < cursor_of here + 1 → slice_get sh j ≡ Some f → f.written ≡ false
-            → ((eqb j (cursor_of here) ≡ true) × (j ≡ cursor_of here)) ⊎ ((eqb j (cursor_of here) ≡ false) × (j ≡ cursor_of here → ⊥))
-            → here.ts ≤ f.rts
-        go j f below is' unwritten (inl same) =
-            let again = sym (ap (slice_get sh) same.1) ∙ is' in
-            let one : e ≡ f = cc in
-            subst (λ (g : Entry V). here.ts ≤ g.rts) one (reaches (ap (λ (g : Entry V). g.written) one ∙ unwritten))
-        go j f below is' unwritten (inr apart) =
-            let other = apart.1 in
-            (busy frozen).passed frozen j f (omega arith) (sym (others j apart.1) ∙ is') unwritten
 
     -- Nothing is to do for an entry that was written or whose lease reaches the timestamp.
     inv_passed : here.state ≡ 2 → (left : ℕ) (e : Entry V) → at_cursor st.tables.entries p here ≡ Some e
@@ -164,14 +134,10 @@ module _ {V : Type 0} where
         → Inv x (did_renew p left ∷ es) (moved_state st st.tables.home st.counter p (onward here) st.tables.entries)
     inv_passed frozen left e is test =
         let l = limits frozen e is in
-        let a = l.0 in
-        let b = l.1 in
-        let c = l.3 in
         inv_moves x es st (did_renew p left) p (onward here) st.tables.entries (live p es) i
         (record { order = refl; grants = refl; put = refl; freed = refl }) at refl
-        (moved st es (did_renew p left ∷ es) st.tables.home st.counter p (onward here) st.tables.entries (live p es)
-        at i.many (same_entries p st.tables.entries) refl (λ q _. refl))
-        (alike_ok x es st p (onward_seat was) at
+        (same_entries p st.tables.entries) refl (λ q _. refl)
+        (alike_ok at
         (λ k. record { write = refl; decided = refl; undecided = λ u. u; entry = refl; later = omega arith; same = λ _. refl; sees = λ y h. h })
         (λ k. refl)
         (seated_onward frozen was e l.0 (omega arith) is (λ unwritten. grind (arith, nat_tests)) refl refl (λ j _. refl) (busy frozen).writes))
@@ -194,32 +160,25 @@ module _ {V : Type 0} where
       sheet_same : sheet p (used_of here) entries_after ≡ sheet_after
       sheet_same = let l = limits frozen e is in sheet_set p (cursor_of here) (used_of here) st.tables.entries longer at l.1 l.2
 
-      apart_keys : Apart (keyed was)
-      apart_keys = subst Apart (sym (busy frozen).keys) (keys_apart (live p es).ops)
-
       was_found : found e.key was ≡ Some e
-      was_found = nth_found was (cursor_of here) e apart_keys is
+      was_found = nth_found was (cursor_of here) e (its_apart (busy frozen)) is
 
       now_found : (found e.key sheet_after ≡ Some longer) × ((k : ℕ) → (k ≡ e.key → ⊥) → found k sheet_after ≡ found k was)
-      now_found = found_set was (cursor_of here) e longer is refl apart_keys
+      now_found = found_set was (cursor_of here) e longer is refl (its_apart (busy frozen))
 
       writes_after : (k : ℕ) (f : Entry V) → found k sheet_after ≡ Some f → last_write k (live p es).ops ≡ write_of f
       writes_after k f =
           by_place (λ j. found j sheet_after ≡ Some f → last_write j (live p es).ops ≡ write_of f) e.key k
           (λ is'.
-          let h = now_found.0 in
-          let one : longer ≡ f = cc in
+          let one : longer ≡ f = cc (now_found.0) in
           (busy frozen).writes e.key e was_found ∙ ap (λ (g : Entry V). write_of g) one)
           (λ apart is'. (busy frozen).writes k f (sym (now_found.1 k apart) ∙ is'))
 
       seated_after : Seated (onward_seat sheet_after)
       seated_after =
           let l = limits frozen e is in
-          let a = l.0 in
-          let b = l.1 in
-          let c = l.3 in
           seated_onward frozen sheet_after longer l.0 (omega arith)
-          (nth_set_same was (cursor_of here) longer ∙ ap (λ (o : Option (Entry V)). over o longer) is)
+          (nth_set_same was (cursor_of here) longer is)
           (λ _. r.reaches)
           (length-set was (cursor_of here) longer)
           (keyed_set was (cursor_of here) e longer is refl)
@@ -227,11 +186,7 @@ module _ {V : Type 0} where
           writes_after
 
       only_here : OnlyAt p st.tables.entries entries_after
-      only_here q n is' apart few =
-          let l = limits frozen e is in
-          let a = l.1 in
-          let b = l.2 in
-          sheet_other p q (cursor_of here) n st.tables.entries longer at is' apart (omega arith) few
+      only_here q n is' apart few = sheet_other p q (cursor_of here) n st.tables.entries longer at is' apart (omega (arith, limits frozen e is)) few
 
       seats_after : Moves (seat_of st es) (seat_of after_state (did_renew p left ∷ es)) p (seat_in p (onward here) entries_after (live p es))
       seats_after =
@@ -240,21 +195,18 @@ module _ {V : Type 0} where
 
       -- what held of the key, and what is to hold
       abbrev KeyWas : Option (V × ℕ) → Type 0
-      KeyWas won = KeyOk e.key (x e.key) row (serial_order es) (seat_of st es) won
+      KeyWas won = KeyIn x es st e.key row won
 
       abbrev KeyNow : Option (V × ℕ) → Type 0
       KeyNow won = KeyOk e.key (x e.key) new (serial_order es) (seat_of after_state (did_renew p left ∷ es)) won
 
       abbrev StakeNow : List (Entry V) → Type 0
-      StakeNow sh = Stake e.key (x e.key) new (serial_order es) None p (onward_seat sh)
+      StakeNow sh = StakeIn x es e.key new None p (onward_seat sh)
 
       -- The value that was read is the one that stands, for as long as the new lease.
       lease_after : KeyWas None → LeaseOk e.key (x e.key) new (serial_order es) (onward_seat sheet_after) longer
       lease_after ok =
           let old = (ok.stakes p at).seen (grind (arith, nat_tests)) e was_found unwritten in
-          let a = r.stood in
-          let b = ok.fair in
-          let c = r.longer in
           let f = old.fair in
           let one : value_upto e.key (x e.key) e.wts (serial_order es) ≡ Some e.value = old.value e.wts (omega arith) f in
           let two : value_upto e.key (x e.key) e.wts (serial_order es) ≡ Some row.value = ok.stands e.wts (omega arith) in
@@ -269,51 +221,38 @@ module _ {V : Type 0} where
 
       key_after : (won : Option (V × ℕ)) → KeyWas won → (after : Option (V × ℕ)) × KeyNow after
       key_after won ok =
-          (None, go (subst KeyWas (free_won e.key (x e.key) row (serial_order es) (seat_of st es) won ok r.free) ok))
+          (None, go (subst KeyWas (free_won ok r.free) ok))
         where
           stake : KeyWas None → StakeNow sheet_after
           stake ok =
-              stake_longer e.key (x e.key) row new (serial_order es) e.wts here.ts r p at
+              stake_longer r p at
               (seat_of st es p) (onward here) sheet_after (ok.stakes p at)
               (λ u f is' unwritten'.
-              let h = now_found.0 in
-              let one : longer ≡ f = cc in
+              let one : longer ≡ f = cc (now_found.0) in
               subst (LeaseOk e.key (x e.key) new (serial_order es) (onward_seat sheet_after)) one (lease_after ok))
 
           go : KeyWas None → KeyNow None
-          go ok =
-              key_longer e.key (x e.key) row new (serial_order es) e.wts here.ts r
-              (seat_of st es) (seat_of after_state (did_renew p left ∷ es)) p (seat_in p (onward here) entries_after (live p es)) at seats_after
-              (subst StakeNow (sym sheet_same) (stake ok))
-              ok
+          go ok = key_longer r seats_after (subst StakeNow (sym sheet_same) (stake ok)) ok
 
       inv_longer : Inv x (did_renew p left ∷ es) after_state
       inv_longer =
           inv_changes x es st (did_renew p left) p (onward here) entries_after (live p es) e.key row new i at
           (record {
             order = refl;
-            count = (let a = r.free in let b = r.holder in grind (arith, nat_tests));
-            long = length_put_entry st.tables.entries p (cursor_of here) longer;
+            count = grind (arith, nat_tests);
+            long = length-set st.tables.entries (base_of p + cursor_of here) longer;
             was = stored;
             moves = seats_after;
             seated = subst (λ (sh : List (Entry V)). Seated (onward_seat sh)) (sym sheet_same) seated_after;
             key = key_after;
-            others = λ j apart. record {
-              write = refl;
-              decided = refl;
-              undecided = λ u. u;
-              entry = ap (found j) sheet_same ∙ now_found.1 j apart;
-              later = omega arith;
-              same = λ _. refl;
-              sees = λ y h. h;
-            };
+            others = λ j apart. record { write = refl; decided = refl; undecided = λ u. u; entry = ap (found j) sheet_same ∙ now_found.1 j apart; later = omega arith; same = λ _. refl; sees = λ y h. h };
             fresh = λ j apart. refl;
           })
 
     -- ---- the rule, stage by stage
 
     abbrev Keeps : Did V ℕ → Type 0
-    Keeps did = Inv x ((by_did st (Call.Renew p) (λ left. did_renew p left) did).event ∷ es) (by_did st (Call.Renew p) (λ left. did_renew p left) did).store
+    Keeps did = Kept x es (by_did st (Call.Renew p) (λ left. did_renew p left) did)
 
     abbrev renewal_of : Entry V → Change V
     renewal_of e = Renew e.wts here.ts (wish_of st.tables.home.last e.key here.ts)
@@ -321,39 +260,18 @@ module _ {V : Type 0} where
     keeps_row : here.state ≡ 2 → (e : Entry V) → at_cursor st.tables.entries p here ≡ Some e → e.written ≡ false
         → (o : Outcome V) → changed st.tables.home e.key (renewal_of e) ≡ o → Keeps (renewing_row st.tables p here e o)
     keeps_row frozen e is unwritten (refuses cause) came =
-        inv_lost x es st p i at (Call.Renew p) (fault_at p e.key cause) here refl (grind (arith, nat_tests))
+        inv_lost x es st p i at (Call.Renew p) (fault_at p e.key cause) (grind (arith, nat_tests))
     keeps_row frozen e is unwritten (grants new) came =
         let g = granted st.tables.home e.key (renewal_of e) new came in
         inv_longer frozen (left_after here) e is unwritten g.0 new g.1 (renewal _ _ _ _ g.0 new g.2)
 
-    keeps_entry : here.state ≡ 2 → (e : Entry V) → at_cursor st.tables.entries p here ≡ Some e
-        → (b : Bool) → e.written || leb here.ts e.rts ≡ b
-        → Keeps (cond b (moving st.tables p (left_after here) (onward here)) (renewing_at st.tables p here e))
-    unfolding renewing_at
-    keeps_entry frozen e is true test = inv_passed frozen (left_after here) e is test
-    keeps_entry frozen e is false test = keeps_row frozen e is (grind (arith, nat_tests)) _ refl
-
     keeps_cursor : here.state ≡ 2 → (o : Option (Entry V)) → at_cursor st.tables.entries p here ≡ o → Keeps (renewing st.tables p here o)
+    unfolding renewing_at
     keeps_cursor frozen None is = inv_refused x es st (Call.Renew p) _ i
-    keeps_cursor frozen (Some e) is = keeps_entry frozen e is _ refl
+    keeps_cursor frozen (Some e) is =
+        cond_both (e.written || leb here.ts e.rts) _ _ Keeps (inv_passed frozen (left_after here) e is) (λ test. keeps_row frozen e is (grind (arith, nat_tests)) _ refl)
 
   module _ (x : ℕ → Option V) (es : List (Event V)) (st : Store V) (i : Inv x es st) (p : ℕ) where
     pub keeps_renew : Inv x ((stepped st (Call.Renew p)).event ∷ es) (stepped st (Call.Renew p)).store
     unfolding stepped renew_call
-    keeps_renew = go (entered 5 st.tables.places (length st.tables.entries) p 0) refl
-      where
-        rule : Place → Did V ℕ
-        rule pl = renewing st.tables p pl (at_cursor st.tables.entries p pl)
-
-        step : Did V ℕ → Step V
-        step did = by_did st (Call.Renew p) (λ left. did_renew p left) did
-
-        go : (r : Result Place Fault) → entered 5 st.tables.places (length st.tables.entries) p 0 ≡ r
-            → Inv x ((step (by_entry st.tables rule r)).event ∷ es) (step (by_entry st.tables rule r)).store
-        go (Err fault) is = inv_refused x es st (Call.Renew p) fault i
-        go (Ok pl) is =
-            let en = entered_ok 5 st.tables.places (length st.tables.entries) p 0 pl is in
-            let same = ap (λ (o : Place). o.state) en.here in
-            let ok = en.admitted in
-            subst (λ (o : Place). Inv x ((step (rule o)).event ∷ es) (step (rule o)).store) en.here
-            (keeps_cursor x es st p i en.place (grind (arith, nat_tests)) _ refl)
+    keeps_renew = entry_kept x es st i (Call.Renew p) (λ left. did_renew p left) 5 p 0 _ (λ en. keeps_cursor x es st p i en.place (grind (arith, nat_tests)) _ refl)

@@ -1,16 +1,19 @@
 -- The flat tables, place by place: what a stored place or entry leaves of the places and of their sheets.
 --   place_at places p    the record of place p
 --   Entered              what the tests that come first have found, once they let a call in
-use Rattle.std.proofs.Common.{◌≡◌, ℕ, suc, ◌+◌, ◌-◌, ◌<◌, ◌≤◌, Bool, true, false, cond, List, [], ◌∷◌, ◌++◌, length, get_or, take, drop, set, Some, None, Ok, Err, Option, Result, sym, refl, ap, ◌∙◌, add-one, arith, length-drop, length-set, length-take-le, get_or-set_other, get_or-set_same, take-suc-set, drop-set-lt}
-use native.Mathlib.Decide.{dec_lt}
+--   by_entered           a call is refused by those tests, or let in
+use Rattle.std.proofs.Common.{◌≡◌, ℕ, suc, ◌+◌, ◌-◌, ◌<◌, ◌≤◌, true, false, List, [], ◌∷◌, ◌++◌, length, get_or, take, drop, set, Some, Ok, Err, Result, sym, refl, ap, ◌∙◌, subst, add-one, arith, length-drop, length-take-le, get_or-set_other, get_or-set_same, take-suc-set, drop-set-lt, inl, inr}
 use lib.Seq.{drop-set-add, take-set-le, take-set-lt}
 use Rattle.std.specs.List.{slice_get}
 use Rattle.std.proofs.lemmas.Option.{slice_get-get_or}
+use Rattle.std.proofs.lemmas.Bool.{cond_both, cases_lt}
 use Rattle.std.proofs.lemmas.Bool.Decides.{nat_tests}
+use Rattle.home.specs.declared.fault.Fault.{Fault}
 use Rattle.home.specs.Meaning.{is_place}
 use Rattle.coordinator.specs.declared.tables.Place.{Place}
 use Rattle.coordinator.specs.declared.tables.Entry.{Entry}
 use Rattle.coordinator.specs.Tables.{admits, base_of, by_state, entered, is_short, put_entry, put_place, sheet}
+use Rattle.coordinator.specs.Calls.{loses}
 
 abbrev pub blank : Place
 blank = record { state = 0; ts = 0; used = 0; cursor = 0 }
@@ -19,69 +22,45 @@ abbrev pub place_at : List Place → ℕ → Place
 place_at places p = get_or places (p - 1) blank
 
 pub place_range : (p : ℕ) → is_place p ≡ true → (1 ≤ p) × (p ≤ 64)
-place_range p is =
-    let low : 1 ≤ p = grind (arith, nat_tests) in
-    let high : p ≤ 64 = grind (arith, nat_tests) in
-    (low, high)
+place_range p is = grind (arith, nat_tests)
 
 -- ---- what the first tests have found
 
-pub record Entered (code : ℕ) (places : List Place) (n p : ℕ) (pl : Place) : Type 0 where
+pub record Entered (code : ℕ) (places : List Place) (n p : ℕ) : Type 0 where
   pub place : is_place p ≡ true
   pub many : 64 ≤ length places
   pub long : 1024 ≤ n
-  pub here : place_at places p ≡ pl
-  pub admitted : admits code pl.state ≡ true
+  pub was : slice_get places (p - 1) ≡ Some (place_at places p)
+  pub admitted : admits code (place_at places p).state ≡ true
 
--- a test that lets nothing through where it holds, and one that lets nothing through where it fails
-passed_by : {A E : Type 0} (b : Bool) (f : E) (r : Result A E) (x : A) → cond b (Err f) r ≡ Ok x → (b ≡ false) × (r ≡ Ok x)
-passed_by true f r x is = absurd (let z : ◌≡◌ {A = ℕ} 0 1 = cc in omega arith)
-passed_by false f r x is = (refl, is)
-
-let_in : {A E : Type 0} (b : Bool) (f : E) (r : Result A E) (x : A) → cond b r (Err f) ≡ Ok x → (b ≡ true) × (r ≡ Ok x)
-let_in true f r x is = (refl, is)
-let_in false f r x is = absurd (let z : ◌≡◌ {A = ℕ} 0 1 = cc in omega arith)
-
-by_state_ok : (code place key : ℕ) (o : Option Place) (pl : Place) → by_state code place key o ≡ Ok pl
-    → (o ≡ Some pl) × (admits code pl.state ≡ true)
-by_state_ok code place key None pl is = absurd (let z : ◌≡◌ {A = ℕ} 0 1 = cc in omega arith)
-by_state_ok code place key (Some p) pl is =
-    let h = let_in (admits code p.state) _ (Ok p) pl is in
-    let same : p ≡ pl = cc in
-    (ap (λ (x : Place). Some x) same, rw same at h.0)
-
-pub entered_ok : (code : ℕ) (places : List Place) (n place key : ℕ) (pl : Place) → entered code places n place key ≡ Ok pl
-    → Entered code places n place pl
+-- A call is refused by them, and loses nothing, or is let in with the record of its place.
+pub by_entered : (code : ℕ) (places : List Place) (n p key : ℕ) (P : Result Place Fault → Type 0)
+    → ((fault : Fault) → loses fault ≡ false → P (Err fault)) → (Entered code places n p → P (Ok (place_at places p))) → P (entered code places n p key)
 unfolding entered
-entered_ok code places n place key pl is =
-    let a = passed_by (is_short (length places) n) _ _ pl is in
-    let b = let_in (is_place place) _ _ pl a.1 in
-    let c = by_state_ok code place key (slice_get places (place - 1)) pl b.1 in
-    let r = place_range place b.0 in
-    let long : 1024 ≤ n = grind (arith, nat_tests) in
-    let many : 64 ≤ length places = grind (arith, nat_tests) in
-    let read = slice_get-get_or places (place - 1) blank (omega arith) in
-    record { place = b.0; many = many; long = long; here = cc; admitted = c.1 }
+by_entered code places n p key P refusal rule =
+    cond_both (is_short (length places) n) _ _ P (λ _. refusal _ refl)
+    (λ long. cond_both (is_place p) _ _ P (λ at. in_place long at) (λ _. refusal _ refl))
+  where
+    in_place : is_short (length places) n ≡ false → is_place p ≡ true → P (by_state code p key (slice_get places (p - 1)))
+    in_place enough at =
+        let r = place_range p at in
+        let many : 64 ≤ length places = grind (arith, nat_tests) in
+        let was : slice_get places (p - 1) ≡ Some (place_at places p) = slice_get-get_or places (p - 1) blank (omega arith) in
+        subst (λ o. P (by_state code p key o)) (sym was)
+        (cond_both (admits code (place_at places p).state) _ _ P
+        (λ ok. rule (record { place = at; many = many; long = grind (arith, nat_tests); was = was; admitted = ok }))
+        (λ _. refusal _ (grind (arith, nat_tests))))
 
 -- ---- places
 
 pub place_same : (ps : List Place) (p : ℕ) (pl : Place) → is_place p ≡ true → 64 ≤ length ps → place_at (put_place ps p pl) p ≡ pl
-place_same ps p pl is many = let r = place_range p is in get_or-set_same ps (p - 1) pl blank (omega arith)
+place_same ps p pl is many = get_or-set_same ps (p - 1) pl blank (omega (arith, place_range p is))
 
 pub place_other : (ps : List Place) (p q : ℕ) (pl : Place) → is_place p ≡ true → is_place q ≡ true → (q ≡ p → ⊥)
     → place_at (put_place ps p pl) q ≡ place_at ps q
-place_other ps p q pl is is' apart =
-    let r = place_range p is in
-    let r' = place_range q is' in
-    get_or-set_other ps (p - 1) (q - 1) pl blank (omega arith)
-
-pub length_put_place : (ps : List Place) (p : ℕ) (pl : Place) → length (put_place ps p pl) ≡ length ps
-length_put_place ps p pl = length-set ps (p - 1) pl
+place_other ps p q pl is is' apart = get_or-set_other ps (p - 1) (q - 1) pl blank (omega (arith, place_range p is, place_range q is'))
 
 module _ {V : Type 0} where
-  pub length_put_entry : (xs : List (Entry V)) (p at : ℕ) (e : Entry V) → length (put_entry xs p at e) ≡ length xs
-  length_put_entry xs p at e = length-set xs (base_of p + at) e
-
   -- ---- sheets
 
   -- a sheet begins at its place's base
@@ -100,18 +79,11 @@ module _ {V : Type 0} where
       → sheet q n (put_entry xs p at e) ≡ sheet q n xs
   sheet_other p q at n xs e is is' apart low few =
       sheet_is q n (put_entry xs p at e)
-      ∙ (elim (dec_lt p q) [ yes before ↦ over before | no after ↦ under after ])
+      ∙ elim (cases_lt p q) [
+        | inl before ↦ let r = place_range p is in ap (take n) (drop-set-lt (base_of q) xs (base_of p + at) e (omega arith))
+        | inr after ↦ part_below (base_of q) n (base_of p + at) xs e (omega (arith, place_range q is'))
+      ]
       ∙ sym (sheet_is q n xs)
-    where
-      over : p < q → take n (drop (base_of q) (put_entry xs p at e)) ≡ take n (drop (base_of q) xs)
-      over before =
-          let r = place_range p is in
-          ap (take n) (drop-set-lt (base_of q) xs (base_of p + at) e (omega arith))
-
-      under : (p < q → ⊥) → take n (drop (base_of q) (put_entry xs p at e)) ≡ take n (drop (base_of q) xs)
-      under after =
-          let r = place_range q is' in
-          part_below (base_of q) n (base_of p + at) xs e (omega arith)
 
   pub sheet_set : (p at n : ℕ) (xs : List (Entry V)) (e : Entry V) → is_place p ≡ true → at < n → n ≤ 16
       → sheet p n (put_entry xs p at e) ≡ set (sheet p n xs) at e
@@ -124,19 +96,14 @@ module _ {V : Type 0} where
   pub sheet_push : (p n : ℕ) (xs : List (Entry V)) (e : Entry V) → is_place p ≡ true → n < 16 → 1024 ≤ length xs
       → sheet p (n + 1) (put_entry xs p n e) ≡ sheet p n xs ++ (e ∷ [])
   sheet_push p n xs e is few long =
-      let r = place_range p is in
-      let d = length-drop (base_of p) xs in
       sheet_is p (n + 1) (put_entry xs p n e)
       ∙ ap (λ k. take k (drop (base_of p) (put_entry xs p n e))) (add-one n)
       ∙ ap (take (suc n)) (drop-set-add (base_of p) xs n e)
-      ∙ take-suc-set (drop (base_of p) xs) n e (omega arith)
+      ∙ take-suc-set (drop (base_of p) xs) n e (omega (arith, place_range p is, length-drop (base_of p) xs))
       ∙ ap (λ (es : List (Entry V)). es ++ (e ∷ [])) (sym (sheet_is p n xs))
 
   pub sheet_length : (p n : ℕ) (xs : List (Entry V)) → is_place p ≡ true → n ≤ 16 → 1024 ≤ length xs → length (sheet p n xs) ≡ n
-  sheet_length p n xs is few long =
-      let r = place_range p is in
-      let d = length-drop (base_of p) xs in
-      ap length (sheet_is p n xs) ∙ length-take-le n (drop (base_of p) xs) (omega arith)
+  sheet_length p n xs is few long = ap length (sheet_is p n xs) ∙ length-take-le n (drop (base_of p) xs) (omega (arith, place_range p is, length-drop (base_of p) xs))
 
   pub sheet_none : (p : ℕ) (xs : List (Entry V)) → sheet p 0 xs ≡ []
   sheet_none p xs = sheet_is p 0 xs

@@ -1,8 +1,9 @@
 -- settle: the next key of a place that has won or lost is handled, or the place becomes free.
-use Rattle.std.proofs.Common.{◌≡◌, ℕ, zero, suc, ◌+◌, ◌<◌, ◌≤◌, Bool, true, false, cond, ◌&&◌, eqb, leb, List, [], ◌∷◌, length, Some, None, Ok, Err, Option, Result, sym, refl, ap, ◌∙◌, subst, inl, arith}
+use Rattle.std.proofs.Common.{◌≡◌, ℕ, ◌<◌, ◌≤◌, Bool, true, false, cond, ◌&&◌, eqb, leb, List, ◌∷◌, Some, None, Option, sym, refl, ap, ◌∙◌, subst, inl, arith}
 use Rattle.std.specs.List.{slice_get, AllByRecursion as All}
+use Rattle.std.proofs.lemmas.Bool.{cond_both}
+use Rattle.std.proofs.lemmas.Option.{slice_get_within}
 use Rattle.std.proofs.lemmas.Bool.Decides.{nat_tests}
-use Rattle.home.specs.declared.fault.Fault.{Fault}
 use Rattle.home.specs.declared.row.Row.{Row}
 use Rattle.home.specs.declared.row.Change.TheVariants.{Free, Put}
 use Rattle.home.specs.Rows.{Outcome, refuses, grants, amended, free_row, put_row}
@@ -11,36 +12,17 @@ use Rattle.home.proofs.Laws.{granted}
 use Rattle.coordinator.specs.declared.call.Call.{Call}
 use Rattle.coordinator.specs.declared.tables.Place.{Place}
 use Rattle.coordinator.specs.declared.tables.Entry.{Entry}
-use Rattle.coordinator.specs.Tables.{at_cursor, cursor_of, entered, sheet, used_of}
-use Rattle.coordinator.specs.Calls.{Did, ending, freed, left_after, moving, onward, settle_call, settling, settling_row}
-use Rattle.serial.specs.Events.{Event, Store, Step, by_did, did_settle, stepped}
-use Rattle.serial.specs.Transactions.{Live, Transaction, among, frees, nothing_done, is_some, keys_of, last_write, live, next_write, one_if, pending_write, puts, serial_order, settling_now, when, unsettled_write, write_at}
+use Rattle.coordinator.specs.Tables.{at_cursor, cursor_of, sheet, used_of}
+use Rattle.coordinator.specs.Calls.{Did, ending, freed, left_after, onward, settle_call, settling, settling_row}
+use Rattle.serial.specs.Events.{Event, Store, by_did, did_settle, stepped}
+use Rattle.serial.specs.Transactions.{Live, Transaction, among, nothing_done, is_some, keys_of, last_write, live, next_write, one_if, pending_write, serial_order, settling_now, when, unsettled_write, write_at}
 use Rattle.serial.proofs.Run.{value_upto}
-use Rattle.serial.proofs.Seats.{entered_ok, place_at, place_range}
-use Rattle.serial.proofs.Keys.{Apart, among_drop, among_here, apart_past, drop_none, keys_apart, nth_found, nth_keyed, nth_keyed_none}
-use Rattle.serial.proofs.Invariant.{Busy, Inv, KeyOk, Moves, Seat, Seated, Stake, bound, by_place, seat_of, standing, undecided, write_of}
-use Rattle.serial.proofs.Moves.{alike_ok, inv_moves, inv_refused, moved, moved_state, other_place, same_place, seat_in}
-use Rattle.serial.proofs.Changes.{held_one, holds_none, inv_changes, loser_won, with_row, won_open}
+use Rattle.serial.proofs.Seats.{place_at, place_range}
+use Rattle.serial.proofs.Keys.{among_drop, among_here, apart_past, drop_none, keys_apart, nth_found, nth_keyed, nth_keyed_none}
+use Rattle.serial.proofs.Invariant.{Busy, Inv, KeyOk, Moves, Seat, Seated, Stake, bound, by_place, seat_of, standing, undecided, all_moved, its_apart, wrote, KeyIn, busy_stays}
+use Rattle.serial.proofs.Moves.{Kept, alike_ok, entry_kept, inv_moves, inv_refused, moved, moved_state, seat_in}
+use Rattle.serial.proofs.Changes.{holds_none, inv_changes, loser_won, with_row, lease_kept, stake_absent}
 use Rattle.serial.proofs.Turns.{same_entries}
-
-pub nth_below : {A : Type 0} (xs : List A) (c : ℕ) (a : A) → slice_get xs c ≡ Some a → c < length xs
-nth_below [] c a is = absurd (let z : ◌≡◌ {A = ℕ} 0 1 = cc in omega arith)
-nth_below (y ∷ xs) zero a is = omega arith
-nth_below (y ∷ xs) (suc c) a is = let h = nth_below xs c a is in omega arith
-
--- What a settle that ends no hold adds to the puts and to the frees.
-no_put : (b : Bool) (n m : ℕ) → n ≡ 0 → cond b n 0 + m ≡ m
-no_put true n m is = omega arith
-no_put false n m is = omega arith
-
-no_free : (b : Bool) (n m : ℕ) → n ≡ 0 → cond b 0 n + m ≡ m
-no_free true n m is = omega arith
-no_free false n m is = omega arith
-
--- And what one that ends a hold adds to both.
-one_ended : (b : Bool) (n p f : ℕ) → n ≡ 1 → (cond b n 0 + p) + (cond b 0 n + f) ≡ suc (p + f)
-one_ended true n p f is = omega arith
-one_ended false n p f is = omega arith
 
 module _ {V : Type 0} where
   -- ---- the rows that put and free leave
@@ -48,11 +30,11 @@ module _ {V : Type 0} where
   -- A put is granted to the holder, past the lease.
   put_granted : (last p : ℕ) (v : V) (t : ℕ) (row new : Row V) → put_row last p v t row ≡ grants new
       → (row.holder ≡ p) × (row.rts < t) × (new ≡ record { value = v; wts = t; rts = t; holder = 0 })
-  put_granted last p v t row new is = (grind (arith, nat_tests), grind (arith, nat_tests), grind (arith, nat_tests))
+  put_granted last p v t row new is = grind (arith, nat_tests)
 
   free_granted : (p : ℕ) (row new : Row V) → free_row p row ≡ grants new
       → (row.holder ≡ p) × (new ≡ record { value = row.value; wts = row.wts; rts = row.rts; holder = 0 })
-  free_granted p row new is = (grind (arith, nat_tests), grind (arith, nat_tests))
+  free_granted p row new is = grind (arith, nat_tests)
 
   -- ---- a transaction whose next key is handled
 
@@ -84,7 +66,7 @@ module _ {V : Type 0} where
     stands : (τ : ℕ) → new.wts ≤ τ → value_upto k x τ us ≡ Some new.value
     quiet : All (λ (t : Transaction V). new.rts < t.ts → among k (keys_of t.ops) ≡ false) us
 
-  module _ (k : ℕ) (x : Option V) (row : Row V) (us : List (Transaction V)) (seats : ℕ → Seat V) (won : Option (V × ℕ)) (p : ℕ) (old : KeyOk k x row us seats won) where
+  module _ {k : ℕ} {x : Option V} {row : Row V} {us : List (Transaction V)} {seats : ℕ → Seat V} {won : Option (V × ℕ)} (p : ℕ) (old : KeyOk k x row us seats won) where
     -- The write that won stands in the row as it stood before.
     put_released : (v : V) (t : ℕ) → won ≡ Some (v, t) → row.holder ≡ p → row.rts < t → Released k x row (record { value = v; wts = t; rts = t; holder = 0 }) us p
     put_released v t wins mine above =
@@ -94,7 +76,6 @@ module _ {V : Type 0} where
           later = omega arith;
           fair = omega arith;
           stands = λ τ from.
-              let h = old.fair in
               let past : leb t τ ≡ true = grind (arith, nat_tests) in
               old.stands τ (omega arith) ∙ ap (λ w. Some (standing w row τ)) wins ∙ ap (λ b. Some (cond b v row.value)) past;
           quiet = subst (λ w. All (λ (u : Transaction V). bound w row < u.ts → among k (keys_of u.ops) ≡ false) us) wins old.quiet;
@@ -111,7 +92,7 @@ module _ {V : Type 0} where
           quiet = subst (λ w. All (λ (u : Transaction V). bound w row < u.ts → among k (keys_of u.ops) ≡ false) us) none old.quiet;
         }
 
-  module _ (k : ℕ) (x : Option V) (row new : Row V) (us : List (Transaction V)) (seats next : ℕ → Seat V) (won : Option (V × ℕ)) (p : ℕ) (n : Seat V) where
+  module _ {k : ℕ} {x : Option V} {row new : Row V} {us : List (Transaction V)} {seats next : ℕ → Seat V} {won : Option (V × ℕ)} {p : ℕ} {n : Seat V} where
     -- Where the holder has settled the key, nobody holds it and nobody has won it.
     key_released : is_place p ≡ true → Moves seats next p n → KeyOk k x row us seats won → Released k x row new us p
         → pending_write k n.live ≡ None → undecided n.place ≡ false → KeyOk k x new us next None
@@ -122,38 +103,21 @@ module _ {V : Type 0} where
           quiet = r.quiet;
           sees = old.sees;
           above = tt;
-          winner = λ w is. absurd (let z : ◌≡◌ {A = ℕ} 0 1 = cc in omega arith);
-          stakes = λ q is. by_place (λ r. is_place r ≡ true → Stake k x new us None r (next r)) p q
-              (λ _. subst (Stake k x new us None p) (sym m.here) here)
-              (λ apart is. subst (Stake k x new us None q) (sym (m.others q is apart)) (there q is apart)) is;
+          winner = λ w is. cc;
+          stakes = all_moved m (Stake k x new us None) here there;
           holder = inl r.free;
         }
       where
         nobody : (q : ℕ) → is_place q ≡ true → eqb new.holder q ≡ false
-        nobody q is = let range = place_range q is in let none = r.free in grind (arith, nat_tests)
-
-        not_won : (l : Live V) → is_some (pending_write k l) ≡ false → (v : V) → unsettled_write k l ≡ Some v → ⊥
-        not_won l none v is = let o = ap (λ (a : Option V). is_some a) (won_open k l v is).1 in let z : ◌≡◌ {A = ℕ} 0 1 = cc in omega arith
+        nobody q is = grind (arith, nat_tests, place_range q is)
 
         here : Stake k x new us None p n
-        here = record {
-          owner = nobody p at ∙ sym (ap (λ (a : Option V). is_some a) closed);
-          seen = λ u e is unwritten. absurd (let z : ◌≡◌ {A = ℕ} 0 1 = cc in omega arith);
-          holds = λ u is. absurd (let z : ◌≡◌ {A = ℕ} 0 1 = cc in omega arith);
-          wins = λ v is. absurd (not_won n.live (ap (λ (a : Option V). is_some a) closed) v is);
-        }
+        here = stake_absent (ap is_some closed) (nobody p at) (λ u e is unwritten. cc)
 
         there : (q : ℕ) → is_place q ≡ true → (q ≡ p → ⊥) → Stake k x new us None q (seats q)
         there q is apart =
-            let none = holds_none k x row us seats won old q is (λ same. apart (sym same ∙ r.mine)) in
-            record {
-              owner = nobody q is ∙ sym none;
-              seen = λ u e is' unwritten.
-                  let o = (old.stakes q is).seen u e is' unwritten in
-                  record { fair = o.fair; begins = o.begins; ends = (let h = o.ends in let l = r.later in omega arith); value = o.value; sees = o.sees };
-              holds = λ u is'. absurd (let z : ◌≡◌ {A = ℕ} 0 1 = cc in omega arith);
-              wins = λ v is'. absurd (not_won (seats q).live none v is');
-            }
+            stake_absent (holds_none old q is (λ same. apart (sym same ∙ r.mine))) (nobody q is)
+            (λ u e is' unwritten. lease_kept ((old.stakes q is).seen u e is' unwritten) r.later)
 
   -- ---- the place
 
@@ -172,10 +136,10 @@ module _ {V : Type 0} where
       busy = (i.seated p at).busy (grind (arith, nat_tests))
 
       stored : cursor_of here ≡ here.cursor
-      stored = let a = busy.few in let b = busy.within in omega arith
+      stored = omega (arith, busy)
 
       handled_is : now.handled ≡ cursor_of here
-      handled_is = let h = busy.handled in let s = stored in grind (arith, nat_tests)
+      handled_is = grind (arith, nat_tests, busy, stored)
 
       -- ---- nothing is left: the place becomes free
 
@@ -195,16 +159,15 @@ module _ {V : Type 0} where
       inv_freed : at_cursor entries p here ≡ None → Inv x (did_settle p 0 true ∷ es) (moved_state st st.tables.home st.counter p (freed here) entries)
       inv_freed is =
           inv_moves x es st (did_settle p 0 true) p (freed here) entries nothing_done i
-          (record { order = refl; grants = refl; put = no_put now.decided 0 (puts es) refl; freed = no_free now.decided 0 (frees es) refl }) at refl
-          (moved st es (did_settle p 0 true ∷ es) st.tables.home st.counter p (freed here) entries nothing_done at i.many (same_entries p entries)
-          (same_place p nothing_done now) (λ q apart. other_place p q nothing_done (live q es) apart))
+          (record { order = refl; grants = refl; put = grind (arith, nat_tests); freed = grind (arith, nat_tests) }) at refl
+          (same_entries p entries) (grind (arith, nat_tests)) (λ q apart. grind (arith, nat_tests))
           (record {
-            seated = record { free = λ _. refl; busy = λ yes'. absurd (let z : ◌≡◌ {A = ℕ} 0 1 = cc in omega arith) };
+            seated = record { free = λ _. refl; busy = λ yes'. cc };
             stakes = λ k row won is' ok. record {
               owner = (ok.stakes p at).owner ∙ ap (λ (a : Option V). is_some a) (closed is k);
-              seen = λ u e is'' unwritten. absurd (let z : ◌≡◌ {A = ℕ} 0 1 = cc in omega arith);
-              holds = λ u is''. absurd (let z : ◌≡◌ {A = ℕ} 0 1 = cc in omega arith);
-              wins = λ v is''. absurd (let z : ◌≡◌ {A = ℕ} 0 1 = cc in omega arith);
+              seen = λ u e is'' unwritten. cc;
+              holds = λ u is''. cc;
+              wins = λ v is''. cc;
             };
             wins = λ k. sym (not_won is k);
             fresh = λ k is' was. refl;
@@ -224,60 +187,45 @@ module _ {V : Type 0} where
             ap (slice_get (keys_of now.ops)) handled_is ∙ ap (λ ks. slice_get ks (cursor_of here)) (sym busy.keys)
             ∙ nth_keyed (sheet p (used_of here) entries) (cursor_of here) e is
 
-        its_write : last_write e.key now.ops ≡ write_of e
-        its_write =
-            busy.writes e.key e (nth_found (sheet p (used_of here) entries) (cursor_of here) e (subst Apart (sym busy.keys) (keys_apart now.ops)) is)
+        its_write : {c : Bool} → e.written ≡ c → last_write e.key now.ops ≡ cond c (Some e.value) None
+        its_write mark = wrote busy e.key e (nth_found (sheet p (used_of here) entries) (cursor_of here) e (its_apart busy) is) mark
 
         seated_onward : Seated (seat_in p (onward here) entries then_live)
         seated_onward = record {
-          free = λ no'. absurd (let z : ◌≡◌ {A = ℕ} 0 1 = grind (arith, nat_tests) in omega arith);
+          free = λ no'. grind (arith, nat_tests);
           busy = λ _.
               let b = busy in
-              let low = nth_below (sheet p (used_of here) entries) (cursor_of here) e is in
-              let size = b.sized in
-              let h = handled_is in
-              record {
-                few = b.few;
-                within = omega arith;
-                sized = b.sized;
-                keys = b.keys;
-                writes = b.writes;
-                decided = b.decided;
-                handled = grind (arith, nat_tests);
-                passed = λ frozen j e' below is' unwritten. absurd (let z : ◌≡◌ {A = ℕ} 0 1 = grind (arith, nat_tests) in omega arith);
-              };
+              let low = slice_get_within (sheet p (used_of here) entries) (cursor_of here) e is in
+              busy_stays b (onward here) _ _ refl (omega arith) b.decided (grind (arith, nat_tests)) (λ frozen j e' below is' unwritten. grind (arith, nat_tests));
         }
 
         onward_moves : (home : Meaning V) → Moves (seat_of st es) (seat_of (moved_state st home st.counter p (onward here) entries) (event ∷ es)) p (seat_in p (onward here) entries then_live)
         onward_moves home =
             moved st es (event ∷ es) home st.counter p (onward here) entries then_live at i.many (same_entries p entries)
-            (same_place p then_live now) (λ q apart. other_place p q (settling_now false (live q es)) (live q es) apart)
+            (grind (arith, nat_tests)) (λ q apart. grind (arith, nat_tests))
 
         -- A key that was only read: nothing but the cursor.
         inv_read : e.written ≡ false → Inv x (event ∷ es) (moved_state st st.tables.home st.counter p (onward here) entries)
         inv_read unwritten =
-            let write : last_write e.key now.ops ≡ None = its_write ∙ ap (λ b. cond b (Some e.value) None) unwritten in
+            let write : last_write e.key now.ops ≡ None = its_write unwritten in
             let none = ap (λ (a : Option V). one_if (is_some a)) (next_is now e.key next_key ∙ write) in
             inv_moves x es st event p (onward here) entries then_live i
-            (record { order = refl; grants = refl; put = no_put now.decided _ (puts es) none; freed = no_free now.decided _ (frees es) none }) at refl
-            (onward_moves st.tables.home)
-            (alike_ok x es st p (seat_in p (onward here) entries then_live) at
+            (record { order = refl; grants = refl; put = grind (arith, nat_tests); freed = grind (arith, nat_tests) }) at refl
+            (same_entries p entries) (grind (arith, nat_tests)) (λ q apart. grind (arith, nat_tests))
+            (alike_ok at
             (λ k. record { write = open_read now e.key next_key write k; decided = refl; undecided = λ u. u; entry = refl; later = omega arith; same = λ _. refl; sees = λ y h. h })
             (λ k. refl)
             seated_onward)
 
         -- A key that was written: its row is let go.
         module _ (written : e.written ≡ true) where
-          wrote : last_write e.key now.ops ≡ Some e.value
-          wrote = its_write ∙ ap (λ b. cond b (Some e.value) None) written
-
           -- All of it holds with this row under the key.
           abbrev After : Row V → Type 0
           After new = Inv x (event ∷ es) (moved_state st (with_row st.tables.home e.key new) st.counter p (onward here) entries)
 
           module _ (row : Row V) (was : slice_get st.tables.home.rows e.key ≡ Some row) where
             inv_released : (new : Row V) → row.holder ≡ p → new.holder ≡ 0
-                → ((won : Option (V × ℕ)) → KeyOk e.key (x e.key) row (serial_order es) (seat_of st es) won → Released e.key (x e.key) row new (serial_order es) p)
+                → ((won : Option (V × ℕ)) → KeyIn x es st e.key row won → Released e.key (x e.key) row new (serial_order es) p)
                 → After new
             inv_released new mine free owed =
                 inv_changes x es st event p (onward here) entries then_live e.key row new i at
@@ -285,29 +233,19 @@ module _ {V : Type 0} where
                   order = refl;
                   count =
                       (let range = place_range p at in
-                      let held : held_one row ≡ 1 = grind (arith, nat_tests) in
-                      let let_go : held_one new ≡ 0 = grind (arith, nat_tests) in
-                      let ended = one_ended now.decided _ (puts es) (frees es) (ap (λ (a : Option V). one_if (is_some a)) (next_is now e.key next_key ∙ wrote)) in
-                      omega arith);
+                      let ended = ap (λ (a : Option V). one_if (is_some a)) (next_is now e.key next_key ∙ its_write written) in
+                      grind (arith, nat_tests));
                   long = refl;
                   was = was;
                   moves = onward_moves (with_row st.tables.home e.key new);
                   seated = seated_onward;
                   key = λ won old. (
                     None,
-                    key_released e.key (x e.key) row new (serial_order es) (seat_of st es) _ won p _ at
+                    key_released at
                         (onward_moves (with_row st.tables.home e.key new)) old (owed won old)
                         (open_past now e.key next_key) (grind (arith, nat_tests)),
                   );
-                  others = λ j apart. record {
-                    write = open_other now e.key next_key j apart;
-                    decided = refl;
-                    undecided = λ u. u;
-                    entry = refl;
-                    later = omega arith;
-                    same = λ _. refl;
-                    sees = λ y h. h;
-                  };
+                  others = λ j apart. record { write = open_other now e.key next_key j apart; decided = refl; undecided = λ u. u; entry = refl; later = omega arith; same = λ _. refl; sees = λ y h. h };
                   fresh = λ j apart. refl;
                 })
 
@@ -316,10 +254,10 @@ module _ {V : Type 0} where
             inv_put new wins is' =
                 let g = put_granted st.tables.home.last p e.value here.ts row new is' in
                 let write : unsettled_write e.key now ≡ Some e.value =
-                ap (λ b. when b (pending_write e.key now)) (busy.decided ∙ wins) ∙ open_here now e.key next_key ∙ wrote in
+                ap (λ b. when b (pending_write e.key now)) (busy.decided ∙ wins) ∙ open_here now e.key next_key ∙ its_write written in
                 subst After (sym g.2)
                 (inv_released _ g.0 refl
-                (λ won old. put_released e.key (x e.key) row (serial_order es) (seat_of st es) won p old e.value here.ts
+                (λ won old. put_released p old e.value here.ts
                 ((old.stakes p at).wins e.value write) g.0 g.1))
 
             inv_free : (new : Row V) → eqb here.state 4 ≡ false → free_row p row ≡ grants new
@@ -329,8 +267,8 @@ module _ {V : Type 0} where
                 let undone : (live row.holder es).decided ≡ false = ap (λ q. (live q es).decided) g.0 ∙ busy.decided ∙ loses in
                 subst After (sym g.1)
                 (inv_released _ g.0 refl
-                (λ won old. free_released e.key (x e.key) row (serial_order es) (seat_of st es) won p old
-                (loser_won e.key (x e.key) row (serial_order es) (seat_of st es) won old undone) g.0))
+                (λ won old. free_released p old
+                (loser_won old undone) g.0))
 
             -- A winner puts, a loser frees.
             inv_ended : (new : Row V) → amended st.tables.home.last (ending p here e) row ≡ grants new
@@ -344,45 +282,22 @@ module _ {V : Type 0} where
 
       -- ---- the call, stage by stage
 
-      abbrev step : Did V (ℕ × Bool) → Step V
-      step d = by_did st (Call.Settle p) (λ answer. did_settle p answer.0 answer.1) d
-
-      abbrev Kept : Did V (ℕ × Bool) → Type 0
-      Kept d = Inv x ((step d).event ∷ es) (step d).store
+      abbrev SettleKept : Did V (ℕ × Bool) → Type 0
+      SettleKept d = Kept x es (by_did st (Call.Settle p) (λ answer. did_settle p answer.0 answer.1) d)
 
       by_row : (e : Entry V) → at_cursor entries p here ≡ Some e → e.written ≡ true
-          → (o : Outcome V) → changed st.tables.home e.key (ending p here e) ≡ o → Kept (settling_row st.tables p here e o)
+          → (o : Outcome V) → changed st.tables.home e.key (ending p here e) ≡ o → SettleKept (settling_row st.tables p here e o)
       by_row e is written (refuses cause) came = inv_refused x es st (Call.Settle p) (fault_at p e.key cause) i
       by_row e is written (grants new) came =
           let g = granted st.tables.home e.key (ending p here e) new came in
           inv_ended e is written g.0 g.1 new g.2
 
-      by_written : (e : Entry V) → at_cursor entries p here ≡ Some e → (b : Bool) → e.written ≡ b
-          → Kept (cond b (settling_row st.tables p here e (changed st.tables.home e.key (ending p here e))) (moving st.tables p (left_after here, false) (onward here)))
-      by_written e is true written = by_row e is written _ refl
-      by_written e is false written = inv_read e is written
-
-      by_entry : (o : Option (Entry V)) → at_cursor entries p here ≡ o → Kept (settling st.tables p here o)
+      by_entry : (o : Option (Entry V)) → at_cursor entries p here ≡ o → SettleKept (settling st.tables p here o)
       by_entry None is = inv_freed is
-      by_entry (Some e) is = by_written e is e.written refl
+      by_entry (Some e) is = cond_both e.written _ _ SettleKept (λ written. by_row e is written _ refl) (inv_read e is)
 
   module _ (x : ℕ → Option V) (es : List (Event V)) (st : Store V) (i : Inv x es st) (p : ℕ) where
     pub keeps_settle : Inv x ((stepped st (Call.Settle p)).event ∷ es) (stepped st (Call.Settle p)).store
     unfolding stepped settle_call
-    keeps_settle = go (entered 7 st.tables.places (length st.tables.entries) p 0) refl
-      where
-        rule : Place → Did V (ℕ × Bool)
-        rule pl = settling st.tables p pl (at_cursor st.tables.entries p pl)
-
-        came : Did V (ℕ × Bool) → Step V
-        came d = by_did st (Call.Settle p) (λ answer. did_settle p answer.0 answer.1) d
-
-        go : (r : Result Place Fault) → entered 7 st.tables.places (length st.tables.entries) p 0 ≡ r
-            → Inv x ((came (Rattle.coordinator.specs.Calls.by_entry st.tables rule r)).event ∷ es) (came (Rattle.coordinator.specs.Calls.by_entry st.tables rule r)).store
-        go (Err fault) is = inv_refused x es st (Call.Settle p) fault i
-        go (Ok pl) is =
-            let en = entered_ok 7 st.tables.places (length st.tables.entries) p 0 pl is in
-            let state = ap (λ (o : Place). o.state) en.here in
-            let ok = en.admitted in
-            subst (λ (o : Place). Inv x ((came (rule o)).event ∷ es) (came (rule o)).store) en.here
-            (by_entry x es st p i en.place (grind (arith, nat_tests)) _ refl)
+    keeps_settle =
+        entry_kept x es st i (Call.Settle p) (λ answer. did_settle p answer.0 answer.1) 7 p 0 _ (λ en. by_entry x es st p i en.place (grind (arith, nat_tests)) _ refl)

@@ -1,19 +1,20 @@
 -- begin, freeze, abort, and a refusal that loses: the seat moves, and no key is touched.
-use Rattle.std.proofs.Common.{◌≡◌, ℕ, Bool, true, false, cond, ◌&&◌, eqb, leb, List, ◌∷◌, length, Some, Ok, Err, Option, Result, sym, refl, ap, ◌∙◌, subst, arith}
+use Rattle.std.proofs.Common.{◌≡◌, ℕ, true, ◌&&◌, leb, List, ◌∷◌, length, Some, Option, sym, refl, ap, ◌∙◌, arith}
+use Rattle.std.proofs.lemmas.Bool.{cond_both}
 use Rattle.std.proofs.lemmas.Bool.Decides.{nat_tests}
 use Rattle.home.specs.declared.fault.Fault.{Fault}
 use Rattle.home.specs.Meaning.{is_place}
 use Rattle.coordinator.specs.declared.call.Call.{Call}
 use Rattle.coordinator.specs.declared.tables.Place.{Place}
 use Rattle.coordinator.specs.declared.tables.Entry.{Entry}
-use Rattle.coordinator.specs.Tables.{admits, entered, sheet}
-use Rattle.coordinator.specs.Calls.{abort_turn, begin_turn, freeze_turn, loses, lost_if, moved_to, turning, with_places}
-use Rattle.serial.specs.Events.{Event, Store, did_abort, did_begin, by_turn, did_freeze, refused, stepped}
+use Rattle.coordinator.specs.Tables.{sheet}
+use Rattle.coordinator.specs.Calls.{abort_turn, begin_turn, freeze_turn, loses, lost_if, moved_to, with_places}
+use Rattle.serial.specs.Events.{Event, Store, did_abort, did_begin, did_freeze, refused, stepped}
 use Rattle.serial.specs.Transactions.{Live, nothing_done, is_some, live, pending_write, unsettled_write}
-use Rattle.serial.proofs.Seats.{entered_ok, place_at, sheet_none}
+use Rattle.serial.proofs.Seats.{place_at, sheet_none}
 use Rattle.serial.proofs.Keys.{found, keyed}
-use Rattle.serial.proofs.Invariant.{Busy, Inv, Seat, seat_of, undecided}
-use Rattle.serial.proofs.Moves.{OnlyAt, Plain, alike_ok, inv_moves, inv_refused, moved, moved_state, other_place, same_place, seat_in}
+use Rattle.serial.proofs.Invariant.{Inv, undecided, busy_stays}
+use Rattle.serial.proofs.Moves.{OnlyAt, Plain, alike_ok, inv_moves, inv_refused, moved_state, turn_kept}
 
 module _ {V : Type 0} where
   pub same_entries : (p : ℕ) (entries : List (Entry V)) → OnlyAt p entries entries
@@ -25,101 +26,62 @@ module _ {V : Type 0} where
     abbrev here : Place
     here = place_at st.tables.places p
 
-    busy_turned : (s : ℕ) → leb 2 s && leb s 3 ≡ true → undecided here ≡ true → Busy (seat_of st es p) → Busy (seat_in p (moved_to s here) st.tables.entries (live p es))
-    busy_turned s range was b =
-        let d = b.decided in
-        let h = b.handled in
-        record {
-          few = b.few;
-          within = omega arith;
-          sized = b.sized;
-          keys = b.keys;
-          writes = b.writes;
-          decided = grind (arith, nat_tests);
-          handled = grind (arith, nat_tests);
-          passed = λ frozen j e below is unwritten. absurd (omega arith);
-        }
-
-    turned : (e : Event V) → Plain es e → ((q : ℕ) → live q (e ∷ es) ≡ live q es) → (s : ℕ) → leb 2 s && leb s 3 ≡ true → undecided here ≡ true → Inv x (e ∷ es) (moved_state st st.tables.home st.counter p (moved_to s here) st.tables.entries)
+    turned : (e : Event V) → Plain es e → ((q : ℕ) → live q (e ∷ es) ≡ live q es) → (s : ℕ) → leb 2 s && leb s 3 ≡ true → undecided here ≡ true
+        → Inv x (e ∷ es) (moved_state st st.tables.home st.counter p (moved_to s here) st.tables.entries)
     turned e plain same s range was =
         inv_moves x es st e p (moved_to s here) st.tables.entries (live p es) i plain at refl
-        (moved st es (e ∷ es) st.tables.home st.counter p (moved_to s here) st.tables.entries (live p es) at i.many (same_entries p st.tables.entries) (same p) (λ q _. same q))
-        (alike_ok x es st p n at
+        (same_entries p st.tables.entries) (same p) (λ q _. same q)
+        (alike_ok at
         (λ k. record { write = refl; decided = refl; undecided = λ _. was; entry = refl; later = omega arith; same = λ _. refl; sees = λ y h. h })
         (λ k. refl)
-        (record { free = λ no'. absurd (let z : ◌≡◌ {A = ℕ} 0 1 = grind (arith, nat_tests) in omega arith); busy = λ _. busy_turned s range was ((i.seated p at).busy (grind (arith, nat_tests))) }))
-      where
-        n : Seat V
-        n = seat_in p (moved_to s here) st.tables.entries (live p es)
-
-    was_undecided : (code : ℕ) (pl : Place) → here ≡ pl → admits code pl.state ≡ true → leb 2 code && leb code 8 ≡ true → eqb code 7 ≡ false → undecided here ≡ true
-    was_undecided code pl is ok range other = let e = ap (λ (o : Place). o.state) is in grind (arith, nat_tests)
+        (record {
+          free = λ no'. grind (arith, nat_tests);
+          busy = λ _.
+              let b = (i.seated p at).busy (grind (arith, nat_tests)) in
+              busy_stays b (moved_to s here) _ _ refl (omega arith) (grind (arith, nat_tests)) (grind (arith, nat_tests)) (λ frozen j e below is unwritten. absurd (omega arith));
+        }))
 
     -- A refusal by 2 or 5 turns the place to losing.
-    pub inv_lost : (call : Call V) (fault : Fault) (pl : Place) → here ≡ pl → undecided pl ≡ true → Inv x (refused call fault ∷ es) (record { tables = with_places st.tables (lost_if fault st.tables.places p pl); counter = st.counter })
-    inv_lost call fault pl is was = go (loses fault)
-      where
-        lost : Inv x (refused call fault ∷ es) (moved_state st st.tables.home st.counter p (moved_to 3 pl) st.tables.entries)
-        lost =
-            subst (λ (o : Place). Inv x (refused call fault ∷ es) (moved_state st st.tables.home st.counter p (moved_to 3 o) st.tables.entries)) is
-            (turned (refused call fault) (record { order = refl; grants = refl; put = refl; freed = refl }) (λ q. refl) 3 refl (subst (λ (o : Place). undecided o ≡ true) (sym is) was))
-
-        go : (b : Bool) → Inv x (refused call fault ∷ es) (record { tables = with_places st.tables (cond b (Rattle.coordinator.specs.Tables.put_place st.tables.places p (moved_to 3 pl)) st.tables.places); counter = st.counter })
-        go true = lost
-        go false = inv_refused x es st call fault i
+    pub inv_lost : (call : Call V) (fault : Fault) → undecided here ≡ true
+        → Inv x (refused call fault ∷ es) (record { tables = with_places st.tables (lost_if fault st.tables.places p here); counter = st.counter })
+    inv_lost call fault was =
+        cond_both (loses fault) _ _ (λ ps. Inv x (refused call fault ∷ es) (record { tables = with_places st.tables ps; counter = st.counter }))
+        (λ _. turned (refused call fault) (record { order = refl; grants = refl; put = refl; freed = refl }) (λ q. refl) 3 refl was)
+        (λ _. inv_refused x es st call fault i)
 
   module _ (x : ℕ → Option V) (es : List (Event V)) (st : Store V) (i : Inv x es st) (p : ℕ) where
     pub keeps_freeze : Inv x ((stepped st (Call.Freeze p)).event ∷ es) (stepped st (Call.Freeze p)).store
     unfolding stepped freeze_turn
-    keeps_freeze = go (entered 4 st.tables.places (length st.tables.entries) p 0) refl
-      where
-        step : Result Place Fault → Rattle.serial.specs.Events.Step V
-        step r = by_turn st (Call.Freeze p) (λ ts. did_freeze p ts) (turning st.tables.places p (λ pl. (pl.ts, moved_to 2 pl)) r)
-
-        go : (r : Result Place Fault) → entered 4 st.tables.places (length st.tables.entries) p 0 ≡ r → Inv x ((step r).event ∷ es) (step r).store
-        go (Err fault) is = inv_refused x es st (Call.Freeze p) fault i
-        go (Ok pl) is =
-            let en = entered_ok 4 st.tables.places (length st.tables.entries) p 0 pl is in
-            subst (λ (o : Place). Inv x (did_freeze p o.ts ∷ es) (moved_state st st.tables.home st.counter p (moved_to 2 o) st.tables.entries)) en.here
-            (turned x es st p i en.place (did_freeze p _) (record { order = refl; grants = refl; put = refl; freed = refl }) (λ q. refl) 2 refl (was_undecided x es st p i en.place 4 pl en.here en.admitted refl refl))
+    keeps_freeze =
+        turn_kept x es st i (Call.Freeze p) (λ ts. did_freeze p ts) 4 p 0 _
+        (λ en. turned x es st p i en.place (did_freeze p _) (record { order = refl; grants = refl; put = refl; freed = refl }) (λ q. refl) 2 refl (grind (arith, nat_tests)))
 
     pub keeps_abort : Inv x ((stepped st (Call.Abort p)).event ∷ es) (stepped st (Call.Abort p)).store
     unfolding stepped abort_turn
-    keeps_abort = go (entered 8 st.tables.places (length st.tables.entries) p 0) refl
-      where
-        step : Result Place Fault → Rattle.serial.specs.Events.Step V
-        step r = by_turn st (Call.Abort p) (λ _. did_abort p) (turning st.tables.places p (λ pl. (tt {0}, moved_to 3 pl)) r)
-
-        go : (r : Result Place Fault) → entered 8 st.tables.places (length st.tables.entries) p 0 ≡ r → Inv x ((step r).event ∷ es) (step r).store
-        go (Err fault) is = inv_refused x es st (Call.Abort p) fault i
-        go (Ok pl) is =
-            let en = entered_ok 8 st.tables.places (length st.tables.entries) p 0 pl is in
-            subst (λ (o : Place). Inv x (did_abort p ∷ es) (moved_state st st.tables.home st.counter p (moved_to 3 o) st.tables.entries)) en.here
-            (turned x es st p i en.place (did_abort p) (record { order = refl; grants = refl; put = refl; freed = refl }) (λ q. refl) 3 refl (was_undecided x es st p i en.place 8 pl en.here en.admitted refl refl))
+    keeps_abort =
+        turn_kept x es st i (Call.Abort p) (λ _. did_abort p) 8 p 0 _
+        (λ en. turned x es st p i en.place (did_abort p) (record { order = refl; grants = refl; put = refl; freed = refl }) (λ q. refl) 3 refl (grind (arith, nat_tests)))
 
     -- A place that was free starts with nothing.
     pub keeps_begin : Inv x ((stepped st (Call.Begin p)).event ∷ es) (stepped st (Call.Begin p)).store
     unfolding stepped begin_turn
-    keeps_begin = go (entered 1 st.tables.places (length st.tables.entries) p 0) refl
+    keeps_begin = turn_kept x es st i (Call.Begin p) (λ _. did_begin p) 1 p 0 _ (λ en. begun en.place (grind (arith, nat_tests)))
       where
         fresh : Place
         fresh = record { state = 1; ts = 0; used = 0; cursor = 0 }
 
-        step : Result Place Fault → Rattle.serial.specs.Events.Step V
-        step r = by_turn st (Call.Begin p) (λ _. did_begin p) (turning st.tables.places p (λ pl. (tt {0}, fresh)) r)
-
         none : (k : ℕ) (e : Entry V) → found k (sheet p 0 st.tables.entries) ≡ Some e → ⊥
-        none k e is = let h = sym (ap (found k) (sheet_none p st.tables.entries)) ∙ is in let z : ◌≡◌ {A = ℕ} 0 1 = cc in omega arith
+        none k e is = let h = sym (ap (found k) (sheet_none p st.tables.entries)) ∙ is in cc
 
         begun : is_place p ≡ true → (place_at st.tables.places p).state ≡ 0 → Inv x (did_begin p ∷ es) (moved_state st st.tables.home st.counter p fresh st.tables.entries)
         begun at was =
             let was_idle : live p es ≡ nothing_done = (i.seated p at).free (grind (arith, nat_tests)) in
             let empty = sheet_none {V = V} p st.tables.entries in
             inv_moves x es st (did_begin p) p fresh st.tables.entries nothing_done i (record { order = refl; grants = refl; put = refl; freed = refl }) at refl
-            (moved st es (did_begin p ∷ es) st.tables.home st.counter p fresh st.tables.entries nothing_done at i.many (same_entries p st.tables.entries) (same_place p nothing_done (live p es)) (λ q apart. other_place p q nothing_done (live q es) apart))
+            (same_entries p st.tables.entries) (grind (arith, nat_tests)) (λ q apart. grind (arith, nat_tests))
             (record {
               seated = record {
-                free = λ no'. absurd (let z : ◌≡◌ {A = ℕ} 0 1 = cc in omega arith);
+                free = λ no'. cc;
                 busy = λ _. record {
                   few = omega arith;
                   within = omega arith;
@@ -134,17 +96,9 @@ module _ {V : Type 0} where
               stakes = λ k row won is ok. record {
                 owner = (ok.stakes p at).owner ∙ ap (λ (l : Live V). is_some (pending_write k l)) was_idle;
                 seen = λ u e is' unwritten. absurd (none k e is');
-                holds = λ u is'. absurd (let z : ◌≡◌ {A = ℕ} 0 1 = cc in omega arith);
-                wins = λ v is'. absurd (let z : ◌≡◌ {A = ℕ} 0 1 = cc in omega arith);
+                holds = λ u is'. cc;
+                wins = λ v is'. cc;
               };
               wins = λ k. ap (λ (l : Live V). unsettled_write k l) (sym was_idle);
               fresh = λ k is was'. refl;
             })
-
-        go : (r : Result Place Fault) → entered 1 st.tables.places (length st.tables.entries) p 0 ≡ r → Inv x ((step r).event ∷ es) (step r).store
-        go (Err fault) is = inv_refused x es st (Call.Begin p) fault i
-        go (Ok pl) is =
-            let en = entered_ok 1 st.tables.places (length st.tables.entries) p 0 pl is in
-            let same = ap (λ (o : Place). o.state) en.here in
-            let ok = en.admitted in
-            begun en.place (grind (arith, nat_tests))

@@ -1,64 +1,46 @@
 -- write: of a key already written, of one that was read, and of a new one.
-use Rattle.std.proofs.Common.{◌≡◌, ℕ, ◌+◌, ◌<◌, ◌≤◌, min, max, Bool, true, false, cond, not, ◌&&◌, ◌||◌, eqb, List, [], ◌∷◌, ◌++◌, length, set, Some, None, Ok, Err, Option, Result, sym, refl, ap, ◌∙◌, subst, inr, arith, length-set}
-use Rattle.std.specs.List.{slice_get}
+use Rattle.std.proofs.Common.{◌≡◌, ℕ, ◌+◌, ◌<◌, ◌≤◌, min, max, true, false, eqb, List, ◌∷◌, length, Some, None, Ok, Option, sym, refl, ap, ◌∙◌, subst, inr, arith, length-set}
+use Rattle.std.specs.List.{slice_get, AllByRecursion as All}
+use Rattle.std.proofs.lemmas.Bool.{cond_both}
 use Rattle.std.proofs.lemmas.Bool.Decides.{nat_tests}
-use Rattle.std.proofs.lemmas.List.{length_push}
-use Rattle.home.specs.declared.fault.Fault.{Fault}
-use Rattle.home.specs.declared.fault.Refusal.TheVariants.{Held, SheetFull, TimeSpent}
 use Rattle.home.specs.declared.row.Row.{Row}
 use Rattle.home.specs.declared.row.Change.TheVariants.{Hold}
-use Rattle.home.specs.Rows.{Outcome, because, grants, hold_row, refuses}
-use Rattle.home.specs.Meaning.{Meaning, changed, is_place, looked}
-use Rattle.home.proofs.Laws.{granted as granted-change}
+use Rattle.home.specs.Rows.{Outcome, grants, hold_row, refuses}
+use Rattle.home.specs.Meaning.{changed, is_place, looked}
+use Rattle.home.proofs.Laws.{granted as granted-change, looked_at}
 use Rattle.coordinator.specs.declared.call.Call.{Call}
 use Rattle.coordinator.specs.declared.tables.Place.{Place}
 use Rattle.coordinator.specs.declared.tables.Entry.{Entry}
-use Rattle.coordinator.specs.Tables.{entered, fault_of, put_entry, sheet, sought, used_of}
-use Rattle.coordinator.specs.Calls.{Did, by_entry, comparing, comparing_at, holding, holding_at, moved_on, refused as away, rewriting, write_call, writing}
-use Rattle.serial.specs.Events.{Event, Store, Step, by_did, did_write, stepped}
+use Rattle.coordinator.specs.Tables.{put_entry, sheet, sought, used_of, base_of}
+use Rattle.coordinator.specs.Calls.{Did, comparing, comparing_at, holding, holding_at, moved_on, write_call, writing}
+use Rattle.serial.specs.Events.{Event, Store, by_did, did_write, stepped}
 use Rattle.serial.specs.Transactions.{Live, Op, Transaction, among, doing, is_none, is_some, keys_of, last_write, live, noted, one_if, pending_write, serial_order, when, unsettled_write, writes}
-use Rattle.serial.proofs.Run.{Sees, among_noted, sees_skip, written_among}
-use Rattle.serial.proofs.Seats.{entered_ok, length_put_entry, place_at, place_range, sheet_other, sheet_push, sheet_set}
-use Rattle.serial.proofs.Keys.{Apart, found, found_among, found_pushed, found_set, found_unpushed, keyed, keyed_push, keyed_set, keys_apart, sought_found, sought_none}
-use Rattle.serial.proofs.Invariant.{Alike, Busy, HoldOk, Inv, KeyOk, LeaseOk, Seat, Seated, Stake, ahead, by_place, seat_of, stake_alike, standing, undecided, write_of}
-use Rattle.serial.proofs.Moves.{inv_moves, inv_refused, moved, moved_state, other_place, same_place, seat_in}
+use Rattle.serial.proofs.Run.{Sees, among_noted, never_written, sees_skip, open_is_last}
+use Rattle.serial.proofs.Seats.{place_at, place_range, sheet_other}
+use Rattle.serial.proofs.Keys.{found, sought_found, sought_none}
+use Rattle.serial.proofs.Invariant.{Alike, Busy, Inv, KeyOk, Seat, by_place, seat_of, standing, write_of, won_open, met, wrote, KeyIn, StakeIn, all_moved, Moves, bound}
+use Rattle.serial.proofs.Moves.{Kept, entry_kept, inv_moves, inv_refused, moved, moved_state, seat_in, stakes_but}
 use Rattle.serial.proofs.Turns.{inv_lost}
-use Rattle.serial.proofs.Changes.{free_won, held_one, holds_none, inv_changes, with_row, won_open}
-use Rattle.serial.proofs.ReadSteps.{is_busy, known_keys, new_keys, no_win, none_handled, not_decided, open_is_last, same_state}
-
--- What was never met was never written.
-never_written : {V : Type 0} (k : ℕ) (os : List (Op V)) → among k (keys_of os) ≡ false → last_write k os ≡ None
-never_written {V} k os none = go (last_write k os) refl
-  where
-    go : (o : Option V) → last_write k os ≡ o → last_write k os ≡ None
-    go None is = is
-    go (Some v) is = absurd (let w = written_among k os v is in let z : ◌≡◌ {A = ℕ} 0 1 = cc in omega arith)
+use Rattle.serial.proofs.Changes.{free_won, holds_none, inv_changes, with_row, lease_kept, stake_absent}
+use Rattle.serial.proofs.ReadSteps.{Grown, pushed, stored, is_busy, known_keys, no_win, none_handled, not_decided, same_state}
 
 -- A key is among the others as before, once one more is noted.
 among_other : (j k : ℕ) (ks : List ℕ) → (j ≡ k → ⊥) → among j (noted k ks) ≡ among j ks
-among_other j k ks apart = let other : eqb k j ≡ false = grind (arith, nat_tests) in among_noted j k ks ∙ ap (λ b. b || among j ks) other
+among_other j k ks apart = grind (arith, nat_tests, among_noted j k ks)
 
 module _ {V : Type 0} where
   -- ---- what a granted hold says
 
   pub hold_granted : (last p : ℕ) (row new : Row V) → hold_row last p row ≡ grants new → (row.holder ≡ 0) × (new ≡ record { value = row.value; wts = row.wts; rts = row.rts; holder = p })
-  hold_granted last p row new is = go (eqb row.holder 0) refl (eqb row.rts last) is
-    where
-      held : Row V
-      held = record { value = row.value; wts = row.wts; rts = row.rts; holder = p }
-
-      go : (a : Bool) → eqb row.holder 0 ≡ a → (b : Bool) → cond a (cond b (because TimeSpent 0) (grants held)) (because Held row.holder) ≡ grants new → (row.holder ≡ 0) × (new ≡ held)
-      go true free true is = absurd (let z : ◌≡◌ {A = ℕ} 0 1 = cc in omega arith)
-      go true free false is = (grind (arith, nat_tests), cc)
-      go false taken b is = absurd (let z : ◌≡◌ {A = ℕ} 0 1 = cc in omega arith)
+  hold_granted last p row new is = grind (arith, nat_tests)
 
   -- ---- writes of one key, for another
 
   open_other : (j k : ℕ) (v : V) (l : Live V) → l.handled ≡ 0 → (j ≡ k → ⊥) → pending_write j (doing (writes k v) l) ≡ pending_write j l
-  open_other j k v l none apart = open_is_last j (doing (writes k v) l) none ∙ other_place k j (Some v) (last_write j l.ops) apart ∙ sym (open_is_last j l none)
+  open_other j k v l none apart = grind (arith, nat_tests, open_is_last j (doing (writes k v) l) none, open_is_last j l none)
 
   open_here : (k : ℕ) (v : V) (l : Live V) → l.handled ≡ 0 → pending_write k (doing (writes k v) l) ≡ Some v
-  open_here k v l none = open_is_last k (doing (writes k v) l) none ∙ same_place k (Some v) (last_write k l.ops)
+  open_here k v l none = grind (arith, nat_tests, open_is_last k (doing (writes k v) l) none)
 
   -- ---- an open place
 
@@ -80,15 +62,25 @@ module _ {V : Type 0} where
 
     -- An undecided transaction has won nothing.
     never_won : (k : ℕ) (v v' : V) → unsettled_write k (doing (writes k v) (live p es)) ≡ Some v' → ⊥
-    never_won k v v' is = let d = (won_open k (doing (writes k v) (live p es)) v' is).0 in let n = undone in let z : ◌≡◌ {A = ℕ} 0 1 = grind (arith, nat_tests) in omega arith
+    never_won k v v' is = grind (arith, nat_tests, (won_open k (doing (writes k v) (live p es)) v' is).0)
 
-    -- What the writes of the sheet are after a write.
-    writes_after : (k : ℕ) (v : V) (sh : List (Entry V)) (e : Entry V) → write_of e ≡ Some v → found k sh ≡ Some e → ((j : ℕ) → (j ≡ k → ⊥) → found j sh ≡ found j now_seat.sheet) → (j : ℕ) (f : Entry V) → found j sh ≡ Some f → last_write j (writes k v ∷ (live p es).ops) ≡ write_of f
-    writes_after k v sh e is-v here' others j f is =
-        by_place (λ m. found m sh ≡ Some f → last_write m (writes k v ∷ (live p es).ops) ≡ write_of f) k j
-        (λ is. let same : e ≡ f = cc in same_place k (Some v) (last_write k (live p es).ops) ∙ sym is-v ∙ ap write_of same)
-        (λ apart is. other_place k j (Some v) (last_write j (live p es).ops) apart ∙ busy.writes j f (sym (others j apart) ∙ is))
-        is
+    -- The place stays busy, where the sheet has the write.
+    busy_wrote : (k : ℕ) (v : V) (pl : Place) (sh : List (Entry V)) (e : Entry V) → pl.state ≡ 1 → pl.used ≤ 16 → pl.cursor ≤ pl.used → write_of e ≡ Some v
+        → Grown k now_seat sh e pl.used → Busy (record { place = pl; sheet = sh; live = doing (writes k v) (live p es) })
+    busy_wrote k v pl sh e open'' few within is-v g =
+        record {
+          few = few;
+          within = within;
+          sized = g.sized;
+          keys = g.keys;
+          writes = λ j f is.
+              by_place (λ m. found m sh ≡ Some f → last_write m (writes k v ∷ (live p es).ops) ≡ write_of f) k j
+              (λ is. let same : e ≡ f = cc in grind (arith, nat_tests, ap write_of same))
+              (λ apart is. grind (arith, nat_tests, busy.writes j f (sym (g.others j apart) ∙ is))) is;
+          decided = grind (arith, nat_tests, undone);
+          handled = grind (arith, nat_tests, unhandled);
+          passed = λ frozen j f below is no'. absurd (omega arith);
+        }
 
     -- ---- the first write of a key: the row is held
 
@@ -116,48 +108,24 @@ module _ {V : Type 0} where
         pub room : at' < 16
         pub few : used' ≤ 16
         pub within : here.cursor ≤ used'
-        pub sized : length new_seat.sheet ≡ used'
-        pub keys : keyed new_seat.sheet ≡ noted k (keys_of (live p es).ops)
-        pub first : found k new_seat.sheet ≡ Some entry
-        pub others : (j : ℕ) → (j ≡ k → ⊥) → found j new_seat.sheet ≡ found j now_seat.sheet
+        pub grown : Grown k now_seat new_seat.sheet entry used'
         pub unwritten : last_write k (live p es).ops ≡ None
-        pub sees : (won : Option (V × ℕ)) → KeyOk k (x k) row (serial_order es) (seat_of st es) won → Sees k (Some row.value) (live p es).ops
+        pub sees : (won : Option (V × ℕ)) → KeyIn x es st k row won → Sees k (Some row.value) (live p es).ops
 
       module _ (t : Taken) (free : row.holder ≡ 0) (is : slice_get st.tables.home.rows k ≡ Some row) where
-        busy_held : Busy new_seat
-        busy_held =
-            record {
-              few = t.few;
-              within = t.within;
-              sized = t.sized;
-              keys = t.keys;
-              writes = writes_after k v new_seat.sheet entry refl t.first t.others;
-              decided = busy.decided;
-              handled = busy.handled;
-              passed = λ frozen j e below is no'. absurd (omega arith);
-            }
-
-        stake_here : (won : Option (V × ℕ)) → KeyOk k (x k) row (serial_order es) (seat_of st es) won → Stake k (x k) held_row (serial_order es) None p new_seat
+        stake_here : (won : Option (V × ℕ)) → KeyIn x es st k row won → StakeIn x es k held_row None p new_seat
         stake_here won ok =
             record {
               owner = (let yes' : eqb p p ≡ true = grind (arith, nat_tests) in yes' ∙ ap is_some (sym (open_here k v (live p es) unhandled)));
-              seen = λ u e is no'. absurd (let f = t.first in let same : entry ≡ e = cc in let w = ap (λ (o : Entry V). o.written) same in let z : ◌≡◌ {A = ℕ} 0 1 = cc in omega arith);
+              seen = λ u e is no'. absurd (cc (t.grown.first));
               holds = λ u is. record { above = omega arith; sees = t.sees won ok };
               wins = λ v' is. absurd (never_won k v v' is);
             }
 
-        stake_there : (won : Option (V × ℕ)) → KeyOk k (x k) row (serial_order es) (seat_of st es) won → (q : ℕ) → is_place q ≡ true → (q ≡ p → ⊥) → Stake k (x k) held_row (serial_order es) None q (seat_of st es q)
+        stake_there : (won : Option (V × ℕ)) → KeyIn x es st k row won → (q : ℕ) → is_place q ≡ true → (q ≡ p → ⊥) → StakeIn x es k held_row None q (seat_of st es q)
         stake_there won ok q at_q apart =
-            let old = ok.stakes q at_q in
             let r = place_range q at_q in
-            let none = holds_none k (x k) row (serial_order es) (seat_of st es) won ok q at_q (λ same. omega arith) in
-            let nobody : eqb p q ≡ false = grind (arith, nat_tests) in
-            record {
-              owner = nobody ∙ sym none;
-              seen = λ u e is no'. let o = old.seen u e is no' in record { fair = o.fair; begins = o.begins; ends = o.ends; value = o.value; sees = o.sees };
-              holds = λ u some. absurd (let z : ◌≡◌ {A = ℕ} 0 1 = cc in omega arith);
-              wins = λ v' win. absurd (let o = ap is_some (won_open k (live q es) v' win).1 in let z : ◌≡◌ {A = ℕ} 0 1 = cc in omega arith);
-            }
+            stake_absent (holds_none ok q at_q (λ same. omega arith)) (grind (arith, nat_tests)) (λ u e is no'. lease_kept ((ok.stakes q at_q).seen u e is no') (omega arith))
 
         abbrev after : Store V
         after = moved_state st (with_row st.tables.home k held_row) st.counter p place' entries'
@@ -165,21 +133,23 @@ module _ {V : Type 0} where
         abbrev event : Event V
         event = did_write p k v (max here.ts (row.rts + 1))
 
-        moves : Rattle.serial.proofs.Invariant.Moves (seat_of st es) (seat_of after (event ∷ es)) p new_seat
-        moves = moved st es (event ∷ es) (with_row st.tables.home k held_row) st.counter p place' entries' writer at i.many (λ q n is' apart few. sheet_other p q at' n st.tables.entries entry at is' apart t.room few) (same_place p writer (live p es)) (λ q apart. other_place p q (doing (writes k v) (live q es)) (live q es) apart)
+        moves : Moves (seat_of st es) (seat_of after (event ∷ es)) p new_seat
+        moves =
+            moved st es (event ∷ es) (with_row st.tables.home k held_row) st.counter p place' entries' writer at i.many
+            (λ q n is' apart few. sheet_other p q at' n st.tables.entries entry at is' apart t.room few) (grind (arith, nat_tests)) (λ q apart. grind (arith, nat_tests))
 
-        key_held : (won : Option (V × ℕ)) → KeyOk k (x k) row (serial_order es) (seat_of st es) won → KeyOk k (x k) held_row (serial_order es) (seat_of after (event ∷ es)) None
+        key_held : (won : Option (V × ℕ)) → KeyIn x es st k row won → KeyOk k (x k) held_row (serial_order es) (seat_of after (event ∷ es)) None
         key_held won ok =
-            let none = free_won k (x k) row (serial_order es) (seat_of st es) won ok free in
+            let none = free_won ok free in
             record {
               fair = ok.fair;
               stands = λ τ from. ok.stands τ from ∙ ap (λ (w : Option (V × ℕ)). Some (standing w row τ)) none;
-              quiet = subst (λ (w : Option (V × ℕ)). Rattle.std.specs.List.AllByRecursion (λ (u : Transaction V). Rattle.serial.proofs.Invariant.bound w row < u.ts → among k (keys_of u.ops) ≡ false) (serial_order es)) none ok.quiet;
+              quiet = subst (λ (w : Option (V × ℕ)). All (λ (u : Transaction V). bound w row < u.ts → among k (keys_of u.ops) ≡ false) (serial_order es)) none ok.quiet;
               sees = ok.sees;
               above = tt;
-              winner = λ w is. absurd (let z : ◌≡◌ {A = ℕ} 0 1 = cc in omega arith);
+              winner = λ w is. cc;
               holder = inr at;
-              stakes = λ q at_q. by_place (λ r. is_place r ≡ true → Stake k (x k) held_row (serial_order es) None r (seat_of after (event ∷ es) r)) p q (λ _. subst (Stake k (x k) held_row (serial_order es) None p) (sym moves.here) (stake_here won ok)) (λ apart at_q. subst (Stake k (x k) held_row (serial_order es) None q) (sym (moves.others q at_q apart)) (stake_there won ok q at_q apart)) at_q;
+              stakes = all_moved moves (StakeIn x es k held_row None) (stake_here won ok) (stake_there won ok);
             }
 
         pub write_held : Inv x (event ∷ es) after
@@ -187,19 +157,22 @@ module _ {V : Type 0} where
             inv_changes x es st event p place' entries' writer k row held_row i at
             (record {
               order = refl;
-              count = (let r = place_range p at in let one : one_if (is_none (last_write k (live p es).ops)) ≡ 1 = ap (λ (o : Option V). one_if (is_none o)) t.unwritten in let a : held_one row ≡ 0 = grind (arith, nat_tests) in let b : held_one held_row ≡ 1 = grind (arith, nat_tests) in omega arith);
-              long = length_put_entry st.tables.entries p at' entry;
+              count =
+                  (let r = place_range p at in
+                  let one = ap (λ (o : Option V). one_if (is_none o)) t.unwritten in
+                  grind (arith, nat_tests));
+              long = length-set st.tables.entries (base_of p + at') entry;
               was = is;
               moves = moves;
-              seated = record { free = λ no'. absurd (let z : ◌≡◌ {A = ℕ} 0 1 = grind (arith, nat_tests) in omega arith); busy = λ _. busy_held };
+              seated = record { free = λ no'. grind (arith, nat_tests); busy = λ _. busy_wrote k v place' new_seat.sheet entry open' t.few t.within refl t.grown };
               key = λ won ok. (None, key_held won ok);
               others = λ j apart. record {
                 write = open_other j k v (live p es) unhandled apart;
                 decided = refl;
                 undecided = λ u. u;
-                entry = t.others j apart;
+                entry = t.grown.others j apart;
                 later = omega arith;
-                same = λ d. absurd (let n = undone in let z : ◌≡◌ {A = ℕ} 0 1 = grind (arith, nat_tests) in omega arith);
+                same = λ d. absurd (grind (arith, nat_tests));
                 sees = λ y s. s;
               };
               fresh = λ j apart. among_other j k (keys_of (live p es).ops) apart;
@@ -209,32 +182,18 @@ module _ {V : Type 0} where
 
     module _ (k : ℕ) (v : V) (row : Row V) (unknown : found k now_seat.sheet ≡ None) (room : used_of here < 16) where
       not_among : among k (keys_of (live p es).ops) ≡ false
-      not_among = ap (among k) (sym busy.keys) ∙ sym (found_among k now_seat.sheet) ∙ ap is_some unknown
+      not_among = met busy k unknown
 
       pub taken_new : Taken k v row (used_of here) (used_of here + 1)
       taken_new =
-          let f = busy.few in
-          let c = busy.within in
-          let z = busy.sized in
           record {
             room = room;
             few = omega arith;
-            within = omega arith;
-            sized = ap length pushed ∙ length_push now_seat.sheet new ∙ (omega arith);
-            keys = ap keyed pushed ∙ keyed_push now_seat.sheet new ∙ ap (λ ks. ks ++ k ∷ []) busy.keys ∙ sym (new_keys k (keys_of (live p es).ops) not_among);
-            first = ap (found k) pushed ∙ found_pushed now_seat.sheet new unknown;
-            others = λ j apart. ap (found j) pushed ∙ found_unpushed now_seat.sheet new j apart;
+            within = omega (arith, busy);
+            grown = pushed x es st p i at open' (min (used_of here + 1) 16) (record { key = k; wts = row.wts; rts = row.rts; value = v; written = true }) (omega arith) unknown room;
             unwritten = never_written k (live p es).ops not_among;
             sees = λ won ok. sees_skip k (live p es).ops not_among (Some row.value);
           }
-        where
-          new : Entry V
-          new = record { key = k; wts = row.wts; rts = row.rts; value = v; written = true }
-
-          pushed : sheet p (used_of (record { state = here.state; ts = max here.ts (row.rts + 1); used = used_of here + 1; cursor = here.cursor })) (put_entry st.tables.entries p (used_of here) new) ≡ now_seat.sheet ++ (new ∷ [])
-          pushed =
-              let one : min (used_of here + 1) 16 ≡ used_of here + 1 = omega arith in
-              ap (λ n. sheet p n (put_entry st.tables.entries p (used_of here) new)) one ∙ sheet_push p (used_of here) st.tables.entries new at room i.long
 
     -- ---- a key in the sheet
 
@@ -242,61 +201,35 @@ module _ {V : Type 0} where
       abbrev at_key : (slice_get now_seat.sheet n ≡ Some e) × (e.key ≡ k) × (found k now_seat.sheet ≡ Some e) × (n < length now_seat.sheet)
       at_key = sought_found k now_seat.sheet n e where'
 
-      apart_keys : Apart (keyed now_seat.sheet)
-      apart_keys = subst Apart (sym busy.keys) (keys_apart (live p es).ops)
-
-      among_known : among k (keys_of (live p es).ops) ≡ true
-      among_known = ap (among k) (sym busy.keys) ∙ sym (found_among k now_seat.sheet) ∙ ap is_some at_key.2
-
       -- the entry at its place in the sheet, under the same key
-      module _ (new : Entry V) (same : new.key ≡ k) where
-        changed_sheet : sheet p (used_of here) (put_entry st.tables.entries p n new) ≡ set now_seat.sheet n new
-        changed_sheet =
-            let z = busy.sized in
-            let f = busy.few in
-            let h = at_key.3 in
-            sheet_set p n (used_of here) st.tables.entries new at (omega arith) (omega arith)
+      module _ (new : Entry V) (same : new.key ≡ e.key) where
+        changed_sheet : Grown k now_seat (sheet p (used_of here) (put_entry st.tables.entries p n new)) new here.used
+        changed_sheet = stored x es st p i at open' n e new at_key.0 (subst (λ j. found j now_seat.sheet ≡ Some e) (sym at_key.1) at_key.2) same k at_key.1
 
-        is_key : new.key ≡ e.key
-        is_key = same ∙ sym at_key.1
-
-        changed_first : found k (set now_seat.sheet n new) ≡ Some new
-        changed_first = ap (λ j. found j (set now_seat.sheet n new)) (sym at_key.1) ∙ (found_set now_seat.sheet n e new at_key.0 is_key apart_keys).0
-
-        changed_others : (j : ℕ) → (j ≡ k → ⊥) → found j (set now_seat.sheet n new) ≡ found j now_seat.sheet
-        changed_others j apart = (found_set now_seat.sheet n e new at_key.0 is_key apart_keys).1 j (λ is. apart (is ∙ at_key.1))
-
-        changed_keys : keyed (set now_seat.sheet n new) ≡ noted k (keys_of (live p es).ops)
-        changed_keys = keyed_set now_seat.sheet n e new at_key.0 is_key ∙ busy.keys ∙ sym (known_keys k (keys_of (live p es).ops) among_known)
-
-        room_known : n < 16
-        room_known = let z = busy.sized in let f = busy.few in let h = at_key.3 in omega arith
+      room_known : n < 16
+      room_known = omega (arith, busy, at_key)
 
       -- ---- one that was read: the version still stands
 
       pub taken_read : (row : Row V) → e.written ≡ false → row.holder ≡ 0 → row.wts ≡ e.wts → Taken k v row n here.used
       taken_read row read free stands =
           record {
-            room = room_known new refl;
+            room = room_known;
             few = busy.few;
             within = busy.within;
-            sized = ap length (changed_sheet new refl) ∙ length-set now_seat.sheet n new ∙ busy.sized;
-            keys = ap keyed (changed_sheet new refl) ∙ changed_keys new refl;
-            first = ap (found k) (changed_sheet new refl) ∙ changed_first new refl;
-            others = λ j apart. ap (found j) (changed_sheet new refl) ∙ changed_others new refl j apart;
-            unwritten = busy.writes k e at_key.2 ∙ ap (λ b. cond b (Some e.value) None) read;
+            grown = changed_sheet new (sym at_key.1);
+            unwritten = wrote busy k e at_key.2 read;
             sees = λ won ok. saw won ok;
           }
         where
           new : Entry V
           new = record { key = k; wts = row.wts; rts = row.rts; value = v; written = true }
 
-          saw : (won : Option (V × ℕ)) → KeyOk k (x k) row (serial_order es) (seat_of st es) won → Sees k (Some row.value) (live p es).ops
+          saw : (won : Option (V × ℕ)) → KeyIn x es st k row won → Sees k (Some row.value) (live p es).ops
           saw won ok =
               let l = (ok.stakes p at).seen (grind (arith, nat_tests)) e at_key.2 read in
-              let f = l.fair in
               let old = l.value e.wts (omega arith) (omega arith) in
-              let now' = ok.stands e.wts (omega arith) ∙ ap (λ (w : Option (V × ℕ)). Some (standing w row e.wts)) (free_won k (x k) row (serial_order es) (seat_of st es) won ok free) in
+              let now' = ok.stands e.wts (omega arith) ∙ ap (λ (w : Option (V × ℕ)). Some (standing w row e.wts)) (free_won ok free) in
               let same : e.value ≡ row.value = cc in
               subst (λ (y : V). Sees k (Some y) (live p es).ops) same l.sees
 
@@ -316,122 +249,83 @@ module _ {V : Type 0} where
         again_seat = seat_in p here again_entries again
 
         last_known : last_write k (live p es).ops ≡ Some e.value
-        last_known = busy.writes k e at_key.2 ∙ ap (λ b. cond b (Some e.value) None) written
+        last_known = wrote busy k e at_key.2 written
 
-        first_again : found k again_seat.sheet ≡ Some rewritten
-        first_again = ap (found k) (changed_sheet rewritten at_key.1) ∙ changed_first rewritten at_key.1
+        grown_again : Grown k now_seat again_seat.sheet rewritten here.used
+        grown_again = changed_sheet rewritten refl
 
-        others_again : (j : ℕ) → (j ≡ k → ⊥) → found j again_seat.sheet ≡ found j now_seat.sheet
-        others_again j apart = ap (found j) (changed_sheet rewritten at_key.1) ∙ changed_others rewritten at_key.1 j apart
-
-        busy_again : Busy again_seat
-        busy_again =
-            record {
-              few = busy.few;
-              within = busy.within;
-              sized = ap length (changed_sheet rewritten at_key.1) ∙ length-set now_seat.sheet n rewritten ∙ busy.sized;
-              keys = ap keyed (changed_sheet rewritten at_key.1) ∙ changed_keys rewritten at_key.1;
-              writes = writes_after k v again_seat.sheet rewritten refl first_again others_again;
-              decided = busy.decided;
-              handled = busy.handled;
-              passed = λ frozen j f below is no'. absurd (omega arith);
-            }
-
-        stake_again : (row : Row V) (won : Option (V × ℕ)) → Stake k (x k) row (serial_order es) won p now_seat → Stake k (x k) row (serial_order es) won p again_seat
+        stake_again : (row : Row V) (won : Option (V × ℕ)) → StakeIn x es k row won p now_seat → StakeIn x es k row won p again_seat
         stake_again row won old =
             let was : is_some (pending_write k (live p es)) ≡ true = ap is_some (open_is_last k (live p es) unhandled ∙ last_known) in
             record {
               owner = old.owner ∙ was ∙ ap is_some (sym (open_here k v (live p es) unhandled));
-              seen = λ u f is no'. absurd (let h = first_again in let same : rewritten ≡ f = cc in let w = ap (λ (o : Entry V). o.written) same in let z : ◌≡◌ {A = ℕ} 0 1 = cc in omega arith);
+              seen = λ u f is no'. absurd (cc (grown_again.first));
               holds = λ u is. let o = old.holds u was in record { above = o.above; sees = o.sees };
               wins = λ v' is. absurd (never_won k v v' is);
             }
 
         alike_again : (j : ℕ) → (j ≡ k → ⊥) → Alike j now_seat again_seat
         alike_again j apart =
-            record { write = open_other j k v (live p es) unhandled apart; decided = refl; undecided = λ u. u; entry = others_again j apart; later = omega arith; same = λ _. refl; sees = λ y s. s }
+            record { write = open_other j k v (live p es) unhandled apart; decided = refl; undecided = λ u. u; entry = grown_again.others j apart; later = omega arith; same = λ _. refl; sees = λ y s. s }
 
         pub write_again : Inv x (did_write p k v here.ts ∷ es) (record { tables = record { home = st.tables.home; places = st.tables.places; entries = again_entries }; counter = st.counter })
         write_again =
             subst (λ ps. Inv x (did_write p k v here.ts ∷ es) (record { tables = record { home = st.tables.home; places = ps; entries = again_entries }; counter = st.counter })) (ap (λ (s : Store V). s.tables.places) (same_state st p))
             (inv_moves x es st (did_write p k v here.ts) p here again_entries again i
             (record { order = refl; grants = ap (λ (o : Option V). one_if (is_none o) + Rattle.serial.specs.Transactions.granted es) last_known ∙ (omega arith); put = refl; freed = refl })
-            at (length_put_entry st.tables.entries p n rewritten)
-            (moved st es (did_write p k v here.ts ∷ es) st.tables.home st.counter p here again_entries again at i.many (λ q m is' apart few. sheet_other p q n m st.tables.entries rewritten at is' apart (room_known rewritten at_key.1) few) (same_place p again (live p es)) (λ q apart. other_place p q (doing (writes k v) (live q es)) (live q es) apart))
+            at (length-set st.tables.entries (base_of p + n) rewritten)
+            (λ q m is' apart few. sheet_other p q n m st.tables.entries rewritten at is' apart room_known few)
+            (grind (arith, nat_tests)) (λ q apart. grind (arith, nat_tests))
             (record {
-              seated = record { free = λ no'. absurd (let z : ◌≡◌ {A = ℕ} 0 1 = grind (arith, nat_tests) in omega arith); busy = λ _. busy_again };
-              stakes = λ j row won is ok. by_place (λ m. Stake m (x m) row (serial_order es) won p now_seat → Stake m (x m) row (serial_order es) won p again_seat) k j (stake_again row won) (λ apart old. stake_alike j (x j) row (serial_order es) won p now_seat again_seat (alike_again j apart) old) (ok.stakes p at);
+              seated = record { free = λ no'. grind (arith, nat_tests); busy = λ _. busy_wrote k v here again_seat.sheet rewritten open' busy.few busy.within refl grown_again };
+              stakes = stakes_but x es st at k (λ row won _ ok. stake_again row won (ok.stakes p at)) alike_again;
               wins = λ j. ap (λ b. when b (pending_write j again)) undone ∙ sym (no_win x es st p i at open' j);
-              fresh = λ j is was. ap (among j) (known_keys k (keys_of (live p es).ops) among_known) ∙ was;
+              fresh = λ j is was. ap (among j) (known_keys k (keys_of (live p es).ops) (met busy k at_key.2)) ∙ was;
             }))
 
   -- ---- the whole call
 
-  looked_is : (m : Meaning V) (k : ℕ) (row : Row V) → slice_get m.rows k ≡ Some row → looked m k ≡ Ok row
-  unfolding looked
-  looked_is m k row is = ap (λ o. Rattle.home.specs.Meaning.raised 0 k (Rattle.home.specs.Meaning.found o)) is
-
   -- A row that is free and has not moved on has the version that was read.
   still_stands : (wts : ℕ) (row : Row V) → row.holder ≡ 0 → moved_on wts (Ok row) ≡ None → row.wts ≡ wts
-  still_stands wts row free is = let f : eqb row.holder 0 ≡ true = grind (arith, nat_tests) in go (eqb row.holder 0) f (eqb row.wts wts) refl is
-    where
-      go : (a : Bool) → a ≡ true → (b : Bool) → eqb row.wts wts ≡ b → cond (a && not b) (Some row.wts) None ≡ None → row.wts ≡ wts
-      go true yes' true same is = grind (arith, nat_tests)
-      go true yes' false other is = absurd (let z : ◌≡◌ {A = ℕ} 0 1 = cc in omega arith)
-      go false yes' b same is = absurd (let z : ◌≡◌ {A = ℕ} 0 1 = cc in omega arith)
+  still_stands wts row free is = grind (arith, nat_tests)
 
   module _ (x : ℕ → Option V) (es : List (Event V)) (st : Store V) (i : Inv x es st) (p k : ℕ) (v : V) where
-    abbrev step : Did V ℕ → Step V
-    step d = by_did st (Call.Write p k v) (λ ts. did_write p k v ts) d
-
-    abbrev Kept : Did V ℕ → Type 0
-    Kept d = Inv x ((step d).event ∷ es) (step d).store
+    abbrev WriteKept : Did V ℕ → Type 0
+    WriteKept d = Kept x es (by_did st (Call.Write p k v) (λ ts. did_write p k v ts) d)
 
     module _ (at : is_place p ≡ true) (open' : (place_at st.tables.places p).state ≡ 1) where
       abbrev pl : Place
       pl = place_at st.tables.places p
 
       -- the hold's outcome, where the entry that it writes has its place
-      by_hold : (n used : ℕ) → ((row : Row V) → slice_get st.tables.home.rows k ≡ Some row → row.holder ≡ 0 → Taken x es st p i at open' k v row n used) → (o : Outcome V) → changed st.tables.home k (Hold p) ≡ o → Kept (holding st.tables p k v pl n used o)
-      by_hold n used taken (refuses cause) is = inv_lost x es st p i at (Call.Write p k v) _ pl refl (grind (arith, nat_tests))
+      by_hold : (n used : ℕ) → ((row : Row V) → slice_get st.tables.home.rows k ≡ Some row → row.holder ≡ 0 → Taken x es st p i at open' k v row n used)
+          → (o : Outcome V) → changed st.tables.home k (Hold p) ≡ o → WriteKept (holding st.tables p k v pl n used o)
+      by_hold n used taken (refuses cause) is = inv_lost x es st p i at (Call.Write p k v) _ (grind (arith, nat_tests))
       by_hold n used taken (grants new) is =
           let g = granted-change st.tables.home k (Hold p) new is in
           let h = hold_granted st.tables.home.last p g.0 new g.2 in
-          subst (λ (o : Row V). Kept (holding st.tables p k v pl n used (grants o))) (sym h.1) (write_held x es st p i at open' k v g.0 n used (taken g.0 g.1 h.0) h.0 g.1)
+          subst (λ (o : Row V). WriteKept (holding st.tables p k v pl n used (grants o))) (sym h.1) (write_held x es st p i at open' k v g.0 n used (taken g.0 g.1 h.0) h.0 g.1)
 
-      by_version : (n : ℕ) (e : Entry V) → sought k 0 (seat_of st es p).sheet ≡ Some (n, e) → e.written ≡ false → (o : Option ℕ) → moved_on e.wts (looked st.tables.home k) ≡ o → Kept (comparing st.tables p k v pl n o)
+      by_version : (n : ℕ) (e : Entry V) → sought k 0 (seat_of st es p).sheet ≡ Some (n, e) → e.written ≡ false
+          → (o : Option ℕ) → moved_on e.wts (looked st.tables.home k) ≡ o → WriteKept (comparing st.tables p k v pl n o)
       unfolding holding_at
-      by_version n e is read (Some wts) moved' = inv_lost x es st p i at (Call.Write p k v) _ pl refl (grind (arith, nat_tests))
+      by_version n e is read (Some wts) moved' = inv_lost x es st p i at (Call.Write p k v) _ (grind (arith, nat_tests))
       by_version n e is read None stood =
           by_hold n pl.used
-          (λ row row_is free. taken_read x es st p i at open' k v n e is row read free (still_stands e.wts row free (ap (moved_on e.wts) (sym (looked_is st.tables.home k row row_is)) ∙ stood)))
+          (λ row row_is free. taken_read x es st p i at open' k v n e is row read free (still_stands e.wts row free (ap (moved_on e.wts) (sym (looked_at st.tables.home k row row_is)) ∙ stood)))
           (changed st.tables.home k (Hold p)) refl
 
-      by_written : (n : ℕ) (e : Entry V) → sought k 0 (seat_of st es p).sheet ≡ Some (n, e) → (b : Bool) → e.written ≡ b → Kept (cond b (rewriting st.tables p pl n e v) (comparing_at st.tables p k v pl n e.wts))
-      unfolding comparing_at
-      by_written n e is true written = write_again x es st p i at open' k v n e is written
-      by_written n e is false read = by_version n e is read (moved_on e.wts (looked st.tables.home k)) refl
-
-      by_room : found k (seat_of st es p).sheet ≡ None → (full : Bool) → eqb (used_of pl) 16 ≡ full → Kept (cond full (away st.tables (fault_of SheetFull p k 0)) (holding_at st.tables p k v pl (used_of pl) (used_of pl + 1)))
-      unfolding holding_at
-      by_room unknown true is = inv_refused x es st (Call.Write p k v) _ i
-      by_room unknown false is =
-          let room : used_of pl < 16 = grind (arith, nat_tests) in
-          by_hold (used_of pl) (used_of pl + 1) (λ row row_is free. taken_new x es st p i at open' k v row unknown room) (changed st.tables.home k (Hold p)) refl
-
-      by_sheet : (o : Option (ℕ × Entry V)) → sought k 0 (seat_of st es p).sheet ≡ o → Kept (writing st.tables p k v pl o)
-      by_sheet (Some f) is = by_written f.0 f.1 is f.1.written refl
-      by_sheet None is = by_room (sought_none k 0 (seat_of st es p).sheet is) (eqb (used_of pl) 16) refl
+      by_sheet : (o : Option (ℕ × Entry V)) → sought k 0 (seat_of st es p).sheet ≡ o → WriteKept (writing st.tables p k v pl o)
+      unfolding holding_at comparing_at
+      by_sheet (Some f) is =
+          cond_both f.1.written _ _ WriteKept (write_again x es st p i at open' k v f.0 f.1 is)
+          (λ read. by_version f.0 f.1 is read (moved_on f.1.wts (looked st.tables.home k)) refl)
+      by_sheet None is =
+          cond_both (eqb (used_of pl) 16) _ _ WriteKept (λ full. inv_refused x es st (Call.Write p k v) _ i)
+          (λ room. by_hold (used_of pl) (used_of pl + 1)
+          (λ row row_is free. taken_new x es st p i at open' k v row (sought_none k 0 (seat_of st es p).sheet is) (grind (arith, nat_tests)))
+          (changed st.tables.home k (Hold p)) refl)
 
     pub keeps_write : Inv x ((stepped st (Call.Write p k v)).event ∷ es) (stepped st (Call.Write p k v)).store
     unfolding stepped write_call
-    keeps_write = go (entered 3 st.tables.places (length st.tables.entries) p k) refl
-      where
-        go : (r : Result Place Fault) → entered 3 st.tables.places (length st.tables.entries) p k ≡ r → Kept (by_entry st.tables (λ pl. writing st.tables p k v pl (sought k 0 (sheet p (used_of pl) st.tables.entries))) r)
-        go (Err fault) is = inv_refused x es st (Call.Write p k v) fault i
-        go (Ok pl) is =
-            let en = entered_ok 3 st.tables.places (length st.tables.entries) p k pl is in
-            let ok = en.admitted in
-            let same = ap (λ (o : Place). o.state) en.here in
-            subst (λ (o : Place). Kept (writing st.tables p k v o (sought k 0 (sheet p (used_of o) st.tables.entries)))) en.here
-            (by_sheet en.place (grind (arith, nat_tests)) (sought k 0 (seat_of st es p).sheet) refl)
+    keeps_write = entry_kept x es st i (Call.Write p k v) (λ ts. did_write p k v ts) 3 p k _ (λ en. by_sheet en.place (grind (arith, nat_tests)) _ refl)
