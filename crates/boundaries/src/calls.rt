@@ -8,7 +8,7 @@ use std::test::Fail;
 
 #[test]
 fn places(rt: HostRuntime) {
-    let mut rows = [row(100, 0, 0), row(100, 0, 0)];
+    let mut rows = [row(0, 0), row(0, 0)];
     let mut home = RowHome::make(&mut rows, 10);
     assert_eq!(rt; number(home.hold(0, 0)), 4);
     assert_eq!(rt; number(home.hold(0, 65)), 4);
@@ -19,7 +19,7 @@ fn places(rt: HostRuntime) {
 
 #[test]
 fn keys(rt: HostRuntime) {
-    let mut rows = [row(100, 0, 0)];
+    let mut rows = [row(0, 0)];
     let mut home = RowHome::make(&mut rows, 10);
     assert_eq!(rt; number(home.look(0)), 0);
     assert_eq!(rt; number(home.look(1)), 1);
@@ -28,7 +28,7 @@ fn keys(rt: HostRuntime) {
 
 #[test]
 fn the_last_timestamp(rt: HostRuntime) {
-    let mut rows = [row(100, 4, 9), row(100, 4, 10)];
+    let mut rows = [row(4, 9), row(4, 10)];
     let mut home = RowHome::make(&mut rows, 10);
     assert_eq!(rt; number(home.hold(0, 1)), 0);
     assert_eq!(rt; number(home.hold(1, 1)), 3);
@@ -42,7 +42,7 @@ fn the_last_timestamp(rt: HostRuntime) {
 
 #[test]
 fn renewals(rt: HostRuntime) -> Result<(), Fail> {
-    let mut rows = [row(100, 3, 5)];
+    let mut rows = [row(3, 5)];
     let mut home = RowHome::make(&mut rows, 100);
     assert_eq!(rt; home.renew(0, 3, 5, 50)?, 5);
     assert_eq!(rt; home.renew(0, 3, 6, 50)?, 50);
@@ -59,8 +59,8 @@ fn renewals(rt: HostRuntime) -> Result<(), Fail> {
 
 #[test]
 fn faults_of_a_split(rt: HostRuntime) {
-    let mut near = [row(100, 0, 0), row(100, 7, 10)];
-    let mut far = [row(100, 3, 5)];
+    let mut near = [row(0, 0), row(7, 10)];
+    let mut far = [row(3, 5)];
     let mut left = RowHome::make(&mut near, 10);
     let mut right = RowHome::make(&mut far, 10);
     let mut home = SplitHome::make(&mut left, &mut right);
@@ -75,8 +75,8 @@ fn faults_of_a_split(rt: HostRuntime) {
 
 #[test]
 fn a_split_of_a_split(rt: HostRuntime) -> Result<(), Fail> {
-    let mut near = [row(100, 0, 0), row(100, 7, 10)];
-    let mut middle = [row(100, 3, 5)];
+    let mut near = [row(0, 0), row(7, 10)];
+    let mut middle = [row(3, 5)];
     let mut far = [0u8; 17];
     let mut first = RowHome::make(&mut near, 4_294_967_295);
     let mut second = RowHome::make(&mut middle, 4_294_967_295);
