@@ -69,7 +69,7 @@ pub(crate) fn row_at(bytes: &[u8], key: usize) -> Row<u64>
     split_row(&bytes[at..at + ROW_BYTES]).unwrap()
 }
 
-// The row with another value.
+// The row with another value, field by field: `..row` cannot change the value's type.
 pub(crate) fn revalued<V: Copy, W: Copy>(row: Row<V>, value: W) -> Row<W>
     ensures { result ≡ valued (λ _. value) row }
 {

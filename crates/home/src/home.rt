@@ -12,6 +12,7 @@ use crate::row::{Cause, Change, Lease, Row};
 // the number, 1 to 64, of one who may hold rows to write them. A refused call alters nothing.
 //
 // A make says where its rows are and how one is changed (`fetch` and `apply`); the five calls are the same for all.
+// `apply` is not: one for all makes would need a method that stores any row, open to every caller.
 pub trait Home {
     type Value: Copy;
 

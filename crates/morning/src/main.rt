@@ -58,6 +58,7 @@ fn rows_of(heap: Global, near: &mut [Row<Node>], far: &mut [u8]) -> Result<Strin
     let mut right = ByteHome::<Node>::make(far);
     let home = SplitHome::make(&mut left, &mut right);
     let mut lines = String::new(heap);
+    // By key, since a home has no slice of rows to go through.
     for key in 0..home.count() {
         if let Ok(row) = home.look(key) {
             writeln!(lines, "{}", Quoted { key, row })?;

@@ -10,7 +10,7 @@ use std::str::{FromStr, SplitWhitespace};
 use thiserror::Error;
 
 // One line of the text.
-#[derive(Clone, Copy)]
+#[derive(Clone, Copy, PartialEq, Eq, Debug)]
 pub enum Line {
     // A node of the curve's near end, which is kept as rows.
     Near(Node),

@@ -1,5 +1,5 @@
-// What the server is asked to do with one node.
-#[derive(Clone, Copy)]
+// What the server is asked to do with one node: a value, as it is read from a line.
+#[derive(Clone, Copy, PartialEq, Eq, Debug)]
 pub enum Order {
     // A desk quotes a new rate.
     Quote { place: u32, key: u32, rate: i32 },

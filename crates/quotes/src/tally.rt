@@ -5,8 +5,9 @@ ghost use Rattle.quotes.specs.Days.{no_tally, tallied};
 use home::{Fault, Refusal};
 use std::fmt;
 
-// The counts of a morning; `refused` goes by the number of the refusal, 1 to 19.
-#[derive(Clone, Copy)]
+// The counts of a morning; `refused` goes by the number of the refusal, 1 to 19, and is no map, so that a tally is
+// copied and allocates nothing.
+#[derive(Clone, Copy, PartialEq, Eq, Debug)]
 pub struct Tally {
     pub accepted: u64,
     pub refused: [u64; 20],

@@ -40,7 +40,8 @@ impl<'a, V: Copy> RowHome<'a, V> {
     }
 }
 
-// Refuses 17 for the first row with a flaw.
+// Refuses 17 for the first row with a flaw. The byte home has such a loop of its own: one for both would be a public
+// function that asks its caller for an iterator that ends.
 fn check_rows<V: Copy>(rows: &[Row<V>], last: u64) -> Result<(), Fault>
     requires { length rows.now ≤ 65535 }
     ensures { result ≡ first_bad (row_flaw last) 0 rows.now }
