@@ -1,7 +1,8 @@
-// What every call tests first, and how it stores its place again.
-ghost use Rattle.std.specs.Prelude.{◌≡◌, ◌+◌, ◌<◌, ◌≤◌, length, IfOk, OnOk};
+// What every call tests first, and what a refusal after that leaves.
+ghost use Rattle.std.specs.Prelude.{◌≡◌, ◌+◌, ◌<◌, ◌≤◌, length, Ok, Err, IfOk, OnOk, if◌then◌else◌};
+ghost use Rattle.home.specs.declared.fault.Refusal.TheVariants.{ShortTable};
 ghost use Rattle.coordinator.specs.Calls.{lost_if};
-ghost use Rattle.coordinator.specs.Tables.{admitted, answered, entered, fault_of};
+ghost use Rattle.coordinator.specs.Tables.{admitted, answered, entered, fault_of, is_short};
 
 use crate::tables::Place;
 use home::{Fault, Layer, Refusal};
@@ -55,7 +56,7 @@ pub(crate) struct Seat {
     ghost within: { at < 64 },
 }
 
-// The place of a call, which may be made in its state. Refuses 14, 4, and 8 or 9.
+// The seat of a call that may be made in the state of its place. Refuses 14, 4, and 8 or 9.
 #[tactic(auto, unfolding(crate::specs::Tables::entered))]
 pub(crate) fn enter(
     code: u8,
@@ -68,9 +69,7 @@ pub(crate) fn enter(
     ensures index { IfOk result (λ seat. seat.at + 1 ≡ place) }
     ensures within { OnOk result ((64 ≤ length places.now) × (1024 ≤ entries)) }
 {
-    if places.len() < 64 || entries < 1024 {
-        return Err(fault(Refusal::ShortTable, place, key, 0));
-    }
+    check_tables(places, entries, place, key)?;
     match place {
         1..=64 => {
             let at = place as usize - 1;
@@ -78,6 +77,23 @@ pub(crate) fn enter(
             Ok(Seat { at, place })
         }
         _ => Err(fault(Refusal::NoPlace, place, key, 0)),
+    }
+}
+
+// Refuses 14 unless there are 64 places and 1,024 entries.
+pub(crate) fn check_tables(
+    places: &[Place],
+    entries: usize,
+    place: u32,
+    key: u32,
+) -> Result<(), Fault>
+    ensures answer { result ≡ (if is_short (length places.now) entries then Err (fault_of ShortTable place key 0) else Ok tt) }
+    ensures within { OnOk result ((64 ≤ length places.now) × (1024 ≤ entries)) }
+{
+    if places.len() < 64 || entries < 1024 {
+        Err(fault(Refusal::ShortTable, place, key, 0))
+    } else {
+        Ok(())
     }
 }
 

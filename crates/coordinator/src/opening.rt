@@ -3,12 +3,12 @@ ghost use Rattle.std.specs.Prelude.{◌≡◌, ◌≤◌, ◌++◌, map, length,
 ghost use Rattle.home.specs.Meaning.{Sound};
 ghost use Rattle.coordinator.specs.Calls.{freed, held_from, opening};
 
-use crate::enter::{FREE, fault};
+use crate::enter::{FREE, check_tables, fault};
 use crate::tables::{Entry, Place};
 use home::{Fault, Home, Refusal};
 
 // Makes the tables ready: every place is free and no transaction has decided. Refuses 14, and 18 with the first held
-// key and its holder.
+// key and its holder. The crate `serial` has it once more, with the law that builds on the rules of all eight calls.
 #[tactic(auto, unfolding(crate::specs::Calls::opening))]
 pub fn open_tables<H: Home>(
     home: &H,
@@ -21,13 +21,11 @@ pub fn open_tables<H: Home>(
     ensures counter { counter.new ≡ (opening (H.Home.meaning home.now) places.old (length entries.now) counter.old).counter }
     ensures sound { OnOk result (Sound (H.Home.meaning home.now)) }
 {
-    if places.len() < 64 || entries.len() < 1024 {
-        return Err(fault(Refusal::ShortTable, 0, 0, 0));
-    }
+    check_tables(places, entries.len(), 0, 0)?;
     if let Some((key, holder)) = first_held(home) {
         return Err(fault(Refusal::NotClean, 0, key, u64::from(holder)));
     }
-    free_places(places);
+    free_places(&mut places[..64]);
     *counter = 0;
     Ok(())
 }
@@ -36,23 +34,21 @@ pub fn open_tables<H: Home>(
 fn first_held<H: Home>(home: &H) -> Option<(u32, u32)>
     ensures { result ≡ held_from 0 (H.Home.meaning home.now).rows }
 {
-    // By key, since a home has no slice of rows to go through.
+    // By key, since a home has no slice of rows; a loop that stops at the first, as the checks of all openings are.
     for key in 0..home.count() {
-        let holder = home.fetch(key).map_or(0, |row| row.holder);
-        if holder != 0 {
-            return Some((key, holder));
+        match home.fetch(key) {
+            Ok(row) if row.holder != 0 => return Some((key, row.holder)),
+            _ => {}
         }
     }
     None
 }
 
-// Frees the first 64 places.
+// Frees these places.
 fn free_places(places: &mut [Place])
-    requires { 64 ≤ length places.old }
-    ensures { places.new ≡ map freed (take 64 places.old) ++ drop 64 places.old }
+    ensures { places.new ≡ map freed places.old }
 {
-    // By index: after a loop over `&mut places[..64]` a proof knows the length and no element.
-    for at in 0..64usize {
-        places[at].state = FREE;
+    for place in places.iter_mut() {
+        place.state = FREE;
     }
 }

@@ -1,5 +1,6 @@
 // A row, and what each change does to the one row that it is about.
-ghost use Rattle.std.specs.Prelude.{◌≡◌};
+ghost use Rattle.std.specs.Prelude.{◌≡◌, Ok, Err, if◌then◌else◌, nat_eq};
+ghost use Rattle.home.specs.declared.fault.Refusal.TheVariants.{Held, NotYours};
 ghost use Rattle.home.specs.Meaning.{checked_place, fault_at, place_of};
 ghost use Rattle.home.specs.Opening.{bad_row, row_flaw};
 ghost use Rattle.home.specs.Rows.{amended, answer_of, free_row, hold_row, lease_of, put_row, renew_row, result_of, row_after};
@@ -159,12 +160,7 @@ impl<V: Copy> Row<V> {
         ensures answer { result ≡ result_of (hold_row last place self.old) }
         ensures row { self.new ≡ row_after self.old (hold_row last place self.old) }
     {
-        if self.holder != 0 {
-            return Err(Cause {
-                refusal: Refusal::Held,
-                detail: u64::from(self.holder),
-            });
-        }
+        self.check_free()?;
         if self.rts == last {
             return Err(Cause::plain(Refusal::TimeSpent));
         }
@@ -185,12 +181,7 @@ impl<V: Copy> Row<V> {
                 detail: self.wts,
             });
         }
-        if self.holder != 0 {
-            return Err(Cause {
-                refusal: Refusal::Held,
-                detail: u64::from(self.holder),
-            });
-        }
+        self.check_free()?;
         if t > self.rts {
             self.rts = wish;
         }
@@ -201,9 +192,7 @@ impl<V: Copy> Row<V> {
         ensures answer { result ≡ result_of (put_row last place value t self.old) }
         ensures row { self.new ≡ row_after self.old (put_row last place value t self.old) }
     {
-        if self.holder != place {
-            return Err(Cause::plain(Refusal::NotYours));
-        }
+        self.check_holder(place)?;
         if t > last {
             return Err(Cause::plain(Refusal::TimeSpent));
         }
@@ -223,10 +212,31 @@ impl<V: Copy> Row<V> {
         ensures answer { result ≡ result_of (free_row place self.old) }
         ensures row { self.new ≡ row_after self.old (free_row place self.old) }
     {
-        if self.holder != place {
-            return Err(Cause::plain(Refusal::NotYours));
-        }
+        self.check_holder(place)?;
         self.holder = 0;
         Ok(())
+    }
+    // Refuses 2 where somebody holds the row.
+    fn check_free(&self) -> Result<(), Cause>
+        ensures { result ≡ (if nat_eq self.now.holder 0 then Ok tt else Err (record { refusal = Held; detail = self.now.holder })) }
+    {
+        match self.holder {
+            0 => Ok(()),
+            holder => Err(Cause {
+                refusal: Refusal::Held,
+                detail: u64::from(holder),
+            }),
+        }
+    }
+
+    // Refuses 6 where the place is not the holder.
+    fn check_holder(&self, place: u32) -> Result<(), Cause>
+        ensures { result ≡ (if nat_eq self.now.holder place then Ok tt else Err (record { refusal = NotYours; detail = 0 })) }
+    {
+        if self.holder == place {
+            Ok(())
+        } else {
+            Err(Cause::plain(Refusal::NotYours))
+        }
     }
 }

@@ -5,6 +5,7 @@ pub trait Kind: Copy {
     // The number by which formats name the kind.
     const CODE: u8;
 
+    // The same number, as contracts name it.
     ghost CODE: { ℕ };
 
     // The word of a value.
@@ -18,7 +19,10 @@ pub trait Kind: Copy {
 
     // The code of the kind.
     fn kind_code() -> u8
-        ensures { result ≡ CODE };
+        ensures { result ≡ CODE }
+    {
+        Self::CODE
+    }
 
     // The word of this value; unpacking it gives this value again.
     fn pack(self) -> u64
@@ -29,7 +33,8 @@ pub trait Kind: Copy {
     fn unpack(word: u64) -> Option<Self>
         ensures { result ≡ unpacked word };
 
-    // The value of a word that is known to have one; of another word, some value.
+    // The value of a word that is known to have one; of another word, some value. It stands beside `unpack` for one who
+    // has tested all words once: it needs no test again, and no proof that there is a value.
     fn read(word: u64) -> Self
         ensures { result ≡ reading word };
 

@@ -62,10 +62,6 @@ impl Kind for Node {
 
     ghost right = { Prim.search rules };
 
-    fn kind_code() -> u8 {
-        Self::CODE
-    }
-
     fn pack(self) -> u64 {
         u64::from(self.day()) * 4_294_967_296 + u64::from(self.rate.cast_unsigned())
     }

@@ -24,10 +24,6 @@ impl Kind for Price {
 
     ghost right = { Prim.search rules };
 
-    fn kind_code() -> u8 {
-        Self::CODE
-    }
-
     fn pack(self) -> u64 {
         self.ticks.cast_unsigned()
     }

@@ -2,8 +2,8 @@ use Rattle.std.proofs.Common.{rules}
 use Rattle.coordinator.proofs.Openings.{held_all, held_more}
 use Rattle.coordinator.proofs.opening.first_held.Goals as goal
 
-pub returns-then-holder-ne0 : goal.returns-then-holder-ne0
-returns-then-holder-ne0 g c =
+pub returns-in-Ok : goal.returns-in-Ok
+returns-in-Ok g c =
     let h = held_more (g.H.Home.meaning c.args.home.now).rows c.loop-key.key (search rules) in
     let k = c.fetch.ensures in
     search rules
