@@ -27,6 +27,6 @@ pub enum Answer<V> {
     Left(u8),
     // decide: the commit timestamp and the commit number
     Committed(u64, u32),
-    // settle: the entries that are left, and whether the place was freed, as settle answers them
+    // settle: the entries that are left, and beside them, as its rule has it, whether the place was freed
     Settled(u8, bool),
 }

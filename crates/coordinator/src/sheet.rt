@@ -46,7 +46,7 @@ pub(crate) fn find<V: Copy>(sheet: &[Entry<V>], key: u32) -> Option<(usize, Entr
     Some((number, sheet[number]))
 }
 
-// The number of the first entry of a key.
+// The number of the first entry of a key: apart, so that the proof has the library's search by itself.
 fn first_of<V: Copy>(sheet: &[Entry<V>], key: u32) -> Option<usize>
     ensures { result ≡ position (λ entry. entry.key == key) sheet.now }
 {

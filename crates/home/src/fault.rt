@@ -4,7 +4,7 @@ ghost use Rattle.home.specs.Refusals.{number_of, word_of, layer_of};
 
 use std::fmt;
 
-// Every reason for which a call of the store is turned away.
+// Every reason for which a call of the store is turned away, with the number that documents and formats give it.
 #[derive(Clone, Copy, PartialEq, Eq, Debug)]
 pub enum Refusal {
     NoKey = 1,
@@ -73,7 +73,7 @@ impl fmt::Display for Refusal {
     }
 }
 
-// The layer of the store in which a refusal arose.
+// The layer of the store in which a refusal arose, with its number in documents and formats.
 #[derive(Clone, Copy, PartialEq, Eq, Debug)]
 pub enum Layer {
     Home = 1,
@@ -93,7 +93,7 @@ impl Layer {
 // A refusal with all that is known of it. Place and key are those given to the outermost call, or 0 where
 // it has none; for BadRow and NotClean the key is the row's. The detail is the holder for Held and NotClean, the
 // standing wts for MovedOn, the state for PlaceTaken and WrongState, which part of the row is bad for BadRow, and 0
-// for the others.
+// for the others. They are numbers and no options, since a fault is promised number by number.
 #[derive(Clone, Copy, PartialEq, Eq, Debug)]
 pub struct Fault {
     pub refusal: Refusal,

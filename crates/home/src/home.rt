@@ -12,14 +12,15 @@ use crate::row::{Cause, Change, Lease, Row};
 // the number, 1 to 64, of one who may hold rows to write them. A refused call alters nothing.
 //
 // A make says where its rows are and how one is changed (`fetch` and `apply`); the five calls are the same for all.
-// `apply` is not: one for all makes would need a method that stores any row, open to every caller.
+// Only `apply` is each make's own: one for all would need a method that stores any row, open to every caller.
 pub trait Home {
     type Value: Copy;
 
     // The rows and the last timestamp that the home stands for.
     ghost meaning: { Self → Meaning Self.Value };
 
-    // The caller's memory in which the home works, and what of it no call alters.
+    // The caller's memory in which the home works, and what of it no call alters. A clause of every call that alters
+    // the home, since it speaks of before and after.
     ghost memory: { Self → Memory Self.Value };
 
     // The number of keys, at most 65,535.
@@ -30,7 +31,7 @@ pub trait Home {
     fn last(&self) -> u64
         ensures { result ≡ (meaning self.now).last };
 
-    // The row of a key, or the cause 1.
+    // The row of a key, or the cause of refusal 1.
     fn fetch(&self, key: u32) -> Result<Row<Self::Value>, Cause>
         ensures { result ≡ found (slice_get (meaning self.now).rows key) };
 

@@ -8,7 +8,8 @@ ghost use Rattle.home.specs.Rows.{amended, answer_of, free_row, hold_row, lease_
 use crate::fault::{Fault, Layer, Refusal};
 
 // A value with its lease, the timestamps from wts (when it was written) to rts (the last at which it is
-// known to stand), and the place that holds the row to write it, or 0: a number, as it stands in the caller's table.
+// known to stand), and the place that holds the row to write it, or 0. All are plain numbers side by side, as they lie
+// in the caller's table.
 #[derive(Clone, Copy, PartialEq, Eq, Debug)]
 pub struct Row<V> {
     pub value: V,
@@ -24,7 +25,7 @@ pub struct Lease {
     pub rts: u64,
 }
 
-// Why a row turns a change away, with the detail for the fault.
+// Why a row turns a change away, with the detail that the fault will have.
 #[derive(Clone, Copy, PartialEq, Eq, Debug)]
 pub struct Cause {
     pub refusal: Refusal,
@@ -69,7 +70,7 @@ pub enum Change<V> {
 }
 
 impl<V: Copy> Change<V> {
-    // The place that makes the change; 0 for a renewal, which needs none.
+    // The place that makes the change; for a renewal, which needs none, the 0 of its faults.
     pub fn place(&self) -> u32
         ensures { result ≡ place_of self.now }
     {
