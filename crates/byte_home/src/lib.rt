@@ -18,7 +18,8 @@ pub use row_bytes::{BYTE_LAST, pack_row, unpack_row};
 #[derive(Drop)]
 pub struct ByteHome<'a, K> {
     bytes: &'a mut [u8],
-    // Beside the table, and no Option of it: a home without keys works on in it too, so that its owner knows it after.
+    // A flag, and no Option of the table: a home without keys keeps the table too, so that its owner knows what it
+    // holds afterwards.
     passed: bool,
     kind: PhantomData<K>,
     ghost sound: { is_sound (table_meaning passed 4294967295 (word_rows bytes.now)) ≡ true },

@@ -37,7 +37,7 @@ impl<'a, K: Kind> ByteHome<'a, K> {
     }
 }
 
-// Refuses 17 for the first row with a flaw.
+// Refuses 17 for the first row with a flaw; the row home's loop says why there is none for both.
 fn check_rows<K: Kind>(bytes: &[u8]) -> Result<(), Fault>
     requires { length bytes.now / 17 ≤ 65535 }
     ensures { result ≡ first_bad (byte_flaw K.Kind.unpacked) 0 (word_rows bytes.now) }

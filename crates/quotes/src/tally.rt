@@ -38,7 +38,7 @@ impl Tally {
     }
 }
 
-// A line for what was done, and one for each reason for which a home refused anything.
+// A line for what was done, and one for each reason for which a home refused anything: it gives no others.
 impl fmt::Display for Tally {
     fn fmt<W: fmt::Write>(&self, f: &mut fmt::Formatter<W>) -> fmt::Result {
         writeln!(f, "accepted {:>4}", self.accepted)?;

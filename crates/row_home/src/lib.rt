@@ -15,7 +15,8 @@ mod making;
 pub struct RowHome<'a, V> {
     rows: &'a mut [Row<V>],
     last: u64,
-    // Beside the table, and no Option of it: a home without keys works on in it too, so that its owner knows it after.
+    // A flag, and no Option of the table: a home without keys keeps the table too, so that its owner knows what it
+    // holds afterwards.
     passed: bool,
     ghost sound: { is_sound (table_meaning passed last rows.now) ≡ true },
 }
