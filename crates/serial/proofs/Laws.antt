@@ -112,22 +112,11 @@ module _ {V : Type 0} where
 
   -- ---- an accepted call
 
-  abbrev is_refusal : Event V → Bool
-  is_refusal (did_begin p) = false
-  is_refusal (did_read p key value) = false
-  is_refusal (did_write p key value ts) = false
-  is_refusal (did_freeze p ts) = false
-  is_refusal (did_renew p left) = false
-  is_refusal (did_decide p ts number) = false
-  is_refusal (did_settle p left freed) = false
-  is_refusal (did_abort p) = false
-  is_refusal (refused call fault) = true
-
-  accepts : (st new : Store V) (call : Call V) (e : Event V) → is_refusal e ≡ false → Reaches st new (place_of call) (raised_by e) → OneEntry st new e
+  accepts : (st new : Store V) (call : Call V) (e : Event V) → ((fault : Fault) → e ≡ refused call fault → ⊥) → Reaches st new (place_of call) (raised_by e) → OneEntry st new e
       → Fine st call (record { event = e; store = new })
   accepts st new call e accepted reach single =
       record {
-        refusal = λ fault is. cc (ap is_refusal is);
+        refusal = λ fault is. absurd (accepted fault is);
         reach = reach;
         single = single;
       }
@@ -154,7 +143,7 @@ module _ {V : Type 0} where
 
     -- The place alone is altered.
     fine_turn : {A : Type 0} (f : A → Event V) (code : ℕ) (rule : Place → A × Place)
-        → ((a : A) → is_refusal (f a) ≡ false) → ((a : A) → raised_by (f a) ≡ 0) → ((a : A) (new : Store V) → OneEntry st new (f a))
+        → ((a : A) (fault : Fault) → f a ≡ refused call fault → ⊥) → ((a : A) → raised_by (f a) ≡ 0) → ((a : A) (new : Store V) → OneEntry st new (f a))
         → Fine st call (by_turn st call f (turning st.tables.places (place_of call) rule (at_first code 0)))
     fine_turn f code rule accepted level single =
         by_first code 0 (λ r. by_turn st call f (turning st.tables.places (place_of call) rule r)) (λ fault. refl)
@@ -168,15 +157,15 @@ module _ {V : Type 0} where
 
   fine_begin : (st : Store V) (p : ℕ) → Fine st (Call.Begin p) (stepped st (Call.Begin p))
   unfolding stepped begin_turn
-  fine_begin st p = fine_turn st (Call.Begin p) (λ _. did_begin p) 1 _ (λ _. refl) (λ _. refl) (λ _ new. tt {0})
+  fine_begin st p = fine_turn st (Call.Begin p) (λ _. did_begin p) 1 _ (λ _ fault is. cc) (λ _. refl) (λ _ new. tt {0})
 
   fine_freeze : (st : Store V) (p : ℕ) → Fine st (Call.Freeze p) (stepped st (Call.Freeze p))
   unfolding stepped freeze_turn
-  fine_freeze st p = fine_turn st (Call.Freeze p) (λ ts. did_freeze p ts) 4 _ (λ _. refl) (λ _. refl) (λ _ new. tt {0})
+  fine_freeze st p = fine_turn st (Call.Freeze p) (λ ts. did_freeze p ts) 4 _ (λ _ fault is. cc) (λ _. refl) (λ _ new. tt {0})
 
   fine_abort : (st : Store V) (p : ℕ) → Fine st (Call.Abort p) (stepped st (Call.Abort p))
   unfolding stepped abort_turn
-  fine_abort st p = fine_turn st (Call.Abort p) (λ _. did_abort p) 8 _ (λ _. refl) (λ _. refl) (λ _ new. tt {0})
+  fine_abort st p = fine_turn st (Call.Abort p) (λ _. did_abort p) 8 _ (λ _ fault is. cc) (λ _. refl) (λ _ new. tt {0})
 
   -- ---- decide
 
@@ -188,7 +177,7 @@ module _ {V : Type 0} where
       (λ none. cond_both (eqb (count_of st.counter) 999999) _ _ Ends (λ full. stays st _ _ refl)
       (λ more.
       let below : count_of st.counter ≡ 999999 → ⊥ = grind (arith, nat_tests) in
-      accepts st _ _ _ refl (reaches st _ p 1 (put_places _ _ _ h.place) (same_sheets _ _) (same_rows _) (omega arith)) tt)))
+      accepts st _ _ _ (λ fault is. cc) (reaches st _ p 1 (put_places _ _ _ h.place) (same_sheets _ _) (same_rows _) (omega arith)) tt)))
     where
       step : Decision (ℕ × ℕ) → Step V
       step d = by_decision st (Call.Decide p) (λ commit. did_decide p commit.0 commit.1) d
@@ -204,8 +193,8 @@ module _ {V : Type 0} where
     fine_read =
         fine_entry st (Call.Read p key) (λ value. did_read p key value) 2 key _
         (λ pl h. read_cases st.tables p pl key (λ d. Fine st (Call.Read p key) (by_did st (Call.Read p key) (λ value. did_read p key value) d)) (λ fault no'. stays st _ _ no')
-        (λ n e is. accepts st st _ _ refl (reaches st st p 0 (same_places _ _) (same_sheets _ _) (same_rows _) (omega arith)) tt)
-        (λ row none room is. accepts st _ _ _ refl (reaches st _ p 0 (put_places _ _ _ h.place) (put_sheets p _ _ _ room) (same_rows _) (omega arith)) tt))
+        (λ n e is. accepts st st _ _ (λ fault is. cc) (reaches st st p 0 (same_places _ _) (same_sheets _ _) (same_rows _) (omega arith)) tt)
+        (λ row none room is. accepts st _ _ _ (λ fault is. cc) (reaches st _ p 0 (put_places _ _ _ h.place) (put_sheets p _ _ _ room) (same_rows _) (omega arith)) tt))
 
   -- ---- write
 
@@ -218,12 +207,12 @@ module _ {V : Type 0} where
       low_known n e is = omega (arith, sought_found key _ n e is, sheet_length p (used_of pl) st.tables.entries h.place (omega arith) h.long)
 
       write_hold : (n used : ℕ) (row : Row V) → n < 16 → WriteFine (holding st.tables p key value pl n used (grants row))
-      write_hold n used row low = accepts st _ _ _ refl (reaches st _ p 0 (put_places _ _ _ h.place) (put_sheets p _ _ _ low) (put_rows _ key row) (omega arith)) tt
+      write_hold n used row low = accepts st _ _ _ (λ fault is. cc) (reaches st _ p 0 (put_places _ _ _ h.place) (put_sheets p _ _ _ low) (put_rows _ key row) (omega arith)) tt
 
       by_cases : WriteFine (writing st.tables p key value pl (sought key 0 (sheet p (used_of pl) st.tables.entries)))
       by_cases =
           write_cases st.tables p pl key value WriteFine (λ fault no'. stays st _ _ no') (turns_away st (Call.Write p key value) pl h.place h.was)
-          (λ n e is written. accepts st _ _ _ refl (reaches st _ p 0 (same_places _ _) (put_sheets p _ _ _ (low_known n e is)) (same_rows _) (omega arith)) tt)
+          (λ n e is written. accepts st _ _ _ (λ fault is. cc) (reaches st _ p 0 (same_places _ _) (put_sheets p _ _ _ (low_known n e is)) (same_rows _) (omega arith)) tt)
           (λ n e row is read stood came. write_hold n pl.used row (low_known n e is))
           (λ row none room came. write_hold (used_of pl) (used_of pl + 1) row room)
 
@@ -266,10 +255,10 @@ module _ {V : Type 0} where
         fine_entry st (Call.Renew p) (λ left. did_renew p left) 5 0 _
         (λ pl h. renew_cases st.tables p pl RenewFine (λ fault no'. stays st _ _ no') (turns_away st (Call.Renew p) pl h.place h.was)
         (λ e is passed.
-        accepts st _ _ _ refl (reaches st _ p 0 (put_places _ _ _ h.place) (same_sheets p _) (same_rows _) (omega arith)) (handles st (Call.Renew p) pl h e is _ _ (λ i apart. refl)))
+        accepts st _ _ _ (λ fault is. cc) (reaches st _ p 0 (put_places _ _ _ h.place) (same_sheets p _) (same_rows _) (omega arith)) (handles st (Call.Renew p) pl h e is _ _ (λ i apart. refl)))
         (λ e row is unwritten came.
         let low = cursor_low st (Call.Renew p) pl h e is in
-        accepts st _ _ _ refl (reaches st _ p 0 (put_places _ _ _ h.place) (put_sheets p _ _ _ (omega arith)) (put_rows _ e.key row) (omega arith))
+        accepts st _ _ _ (λ fault is. cc) (reaches st _ p 0 (put_places _ _ _ h.place) (put_sheets p _ _ _ (omega arith)) (put_rows _ e.key row) (omega arith))
         (handles st (Call.Renew p) pl h e is _ _ (λ i apart. nth_set_other st.tables.entries (base_of p + cursor_of pl) i _ apart))))
 
   -- ---- settle
@@ -284,12 +273,12 @@ module _ {V : Type 0} where
         fine_entry st (Call.Settle p) (λ answer. did_settle p answer.0 answer.1) 7 0 _
         (λ pl h. settle_cases st.tables p pl SettleFine (λ fault no'. stays st _ _ no')
         (λ is.
-        accepts st _ _ _ refl (reaches st _ p 0 (put_places _ _ _ h.place) (same_sheets p _) (same_rows _) (omega arith))
+        accepts st _ _ _ (λ fault is. cc) (reaches st _ p 0 (put_places _ _ _ h.place) (same_sheets p _) (same_rows _) (omega arith))
         (record { place = pl; was = h.was; goes = goes_to st (Call.Settle p) pl h (freed pl); counted = (refl, cursor_past st (Call.Settle p) pl h is) }))
         (λ e is read.
-        accepts st _ _ _ refl (reaches st _ p 0 (put_places _ _ _ h.place) (same_sheets p _) (same_rows _) (omega arith)) (handles st (Call.Settle p) pl h e is _ _ (λ i apart. refl)))
+        accepts st _ _ _ (λ fault is. cc) (reaches st _ p 0 (put_places _ _ _ h.place) (same_sheets p _) (same_rows _) (omega arith)) (handles st (Call.Settle p) pl h e is _ _ (λ i apart. refl)))
         (λ e row is written came.
-        accepts st _ _ _ refl (reaches st _ p 0 (put_places _ _ _ h.place) (same_sheets p _) (put_rows _ e.key row) (omega arith)) (handles st (Call.Settle p) pl h e is _ _ (λ i apart. refl))))
+        accepts st _ _ _ (λ fault is. cc) (reaches st _ p 0 (put_places _ _ _ h.place) (same_sheets p _) (put_rows _ e.key row) (omega arith)) (handles st (Call.Settle p) pl h e is _ _ (λ i apart. refl))))
 
   -- ---- every call
 

@@ -2,9 +2,9 @@
 use Rattle.std.proofs.Common.{◌≡◌, ℕ, ◌<◌, ◌≤◌, Bool, true, false, cond, ◌&&◌, eqb, leb, List, ◌∷◌, Some, None, Option, sym, refl, ap, ◌∙◌, subst, inl, arith}
 use Rattle.std.specs.List.{slice_get, AllByRecursion as All}
 use Rattle.std.proofs.lemmas.Option.{slice_get_within}
+use Rattle.std.proofs.lemmas.Bool.{cond_both}
 use Rattle.std.proofs.lemmas.Bool.Decides.{nat_tests}
 use Rattle.home.specs.declared.row.Row.{Row}
-use Rattle.home.specs.declared.row.Change.TheVariants.{Free, Put}
 use Rattle.home.specs.Rows.{grants, amended, free_row, put_row}
 use Rattle.home.specs.Meaning.{Meaning, is_place}
 use Rattle.home.proofs.Laws.{granted}
@@ -273,12 +273,7 @@ module _ {V : Type 0} where
             -- A winner puts, a loser frees.
             inv_ended : (new : Row V) → amended st.tables.home.last (ending p here e) row ≡ grants new
                 → After new
-            inv_ended new is' = go (eqb here.state 4) refl is'
-              where
-                go : (b : Bool) → eqb here.state 4 ≡ b → amended st.tables.home.last (cond b (Put p e.value here.ts) (Free p)) row ≡ grants new
-                    → After new
-                go true state is' = inv_put new state is'
-                go false state is' = inv_free new state is'
+            inv_ended new = cond_both (eqb here.state 4) _ _ (λ change. amended st.tables.home.last change row ≡ grants new → After new) (inv_put new) (inv_free new)
 
   module _ (x : ℕ → Option V) (es : List (Event V)) (st : Store V) (i : Inv x es st) (p : ℕ) where
     pub keeps_settle : Inv x ((stepped st (Call.Settle p)).event ∷ es) (stepped st (Call.Settle p)).store
