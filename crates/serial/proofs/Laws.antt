@@ -112,12 +112,13 @@ module _ {V : Type 0} where
 
   -- ---- an accepted call
 
-  accepts : (st new : Store V) (call : Call V) (e : Event V) → ((fault : Fault) → e ≡ refused call fault → ⊥) → Reaches st new (place_of call) (raised_by e) → OneEntry st new e
-      → Fine st call (record { event = e; store = new })
-  accepts st new call e accepted reach single =
+  accepts : (st new : Store V) (call : Call V) (e : Event V) → ((fault : Fault) → e ≡ refused call fault → ⊥)
+      → OwnPlace (place_of call) st.tables.places new.tables.places → OwnSheet (place_of call) st.tables.entries new.tables.entries
+      → OneRow st.tables.home new.tables.home → new.counter ≡ st.counter + raised_by e → OneEntry st new e → Fine st call (record { event = e; store = new })
+  accepts st new call e accepted places entries home counter single =
       record {
         refusal = λ fault is. absurd (accepted fault is);
-        reach = reach;
+        reach = reaches st new (place_of call) (raised_by e) places entries home counter;
         single = single;
       }
 
@@ -148,7 +149,7 @@ module _ {V : Type 0} where
     fine_turn f code rule accepted level single =
         by_first code 0 (λ r. by_turn st call f (turning st.tables.places (place_of call) rule r)) (λ fault. refl)
         (λ pl h.
-        accepts st _ call _ (accepted _) (reaches st _ _ _ (put_places _ _ _ h.place) (same_sheets _ _) (same_rows _) (omega (arith, level (rule pl).0))) (single _ _))
+        accepts st _ call _ (accepted _) (put_places _ _ _ h.place) (same_sheets _ _) (same_rows _) (omega (arith, level (rule pl).0)) (single _ _))
 
     -- Calls that look at the home.
     fine_entry : {A : Type 0} (f : A → Event V) (code key : ℕ) (rule : Place → Did V A)
@@ -177,7 +178,7 @@ module _ {V : Type 0} where
       (λ none. cond_both (eqb (count_of st.counter) 999999) _ _ Ends (λ full. stays st _ _ refl)
       (λ more.
       let below : count_of st.counter ≡ 999999 → ⊥ = grind (arith, nat_tests) in
-      accepts st _ _ _ (λ fault is. cc) (reaches st _ p 1 (put_places _ _ _ h.place) (same_sheets _ _) (same_rows _) (omega arith)) tt)))
+      accepts st _ _ _ (λ fault is. cc) (put_places _ _ _ h.place) (same_sheets _ _) (same_rows _) (omega arith) tt)))
     where
       step : Decision (ℕ × ℕ) → Step V
       step d = by_decision st (Call.Decide p) (λ commit. did_decide p commit.0 commit.1) d
@@ -193,8 +194,8 @@ module _ {V : Type 0} where
     fine_read =
         fine_entry st (Call.Read p key) (λ value. did_read p key value) 2 key _
         (λ pl h. read_cases st.tables p pl key (λ d. Fine st (Call.Read p key) (by_did st (Call.Read p key) (λ value. did_read p key value) d)) (λ fault no'. stays st _ _ no')
-        (λ n e is. accepts st st _ _ (λ fault is. cc) (reaches st st p 0 (same_places _ _) (same_sheets _ _) (same_rows _) (omega arith)) tt)
-        (λ row none room is. accepts st _ _ _ (λ fault is. cc) (reaches st _ p 0 (put_places _ _ _ h.place) (put_sheets p _ _ _ room) (same_rows _) (omega arith)) tt))
+        (λ n e is. accepts st st _ _ (λ fault is. cc) (same_places _ _) (same_sheets _ _) (same_rows _) (omega arith) tt)
+        (λ row none room is. accepts st _ _ _ (λ fault is. cc) (put_places _ _ _ h.place) (put_sheets p _ _ _ room) (same_rows _) (omega arith) tt))
 
   -- ---- write
 
@@ -207,12 +208,12 @@ module _ {V : Type 0} where
       low_known n e is = omega (arith, sought_found key _ n e is, sheet_length p (used_of pl) st.tables.entries h.place (omega arith) h.long)
 
       write_hold : (n used : ℕ) (row : Row V) → n < 16 → WriteFine (holding st.tables p key value pl n used (grants row))
-      write_hold n used row low = accepts st _ _ _ (λ fault is. cc) (reaches st _ p 0 (put_places _ _ _ h.place) (put_sheets p _ _ _ low) (put_rows _ key row) (omega arith)) tt
+      write_hold n used row low = accepts st _ _ _ (λ fault is. cc) (put_places _ _ _ h.place) (put_sheets p _ _ _ low) (put_rows _ key row) (omega arith) tt
 
       by_cases : WriteFine (writing st.tables p key value pl (sought key 0 (sheet p (used_of pl) st.tables.entries)))
       by_cases =
           write_cases st.tables p pl key value WriteFine (λ fault no'. stays st _ _ no') (turns_away st (Call.Write p key value) pl h.place h.was)
-          (λ n e is written. accepts st _ _ _ (λ fault is. cc) (reaches st _ p 0 (same_places _ _) (put_sheets p _ _ _ (low_known n e is)) (same_rows _) (omega arith)) tt)
+          (λ n e is written. accepts st _ _ _ (λ fault is. cc) (same_places _ _) (put_sheets p _ _ _ (low_known n e is)) (same_rows _) (omega arith) tt)
           (λ n e row is read stood came. write_hold n pl.used row (low_known n e is))
           (λ row none room came. write_hold (used_of pl) (used_of pl + 1) row room)
 
@@ -255,10 +256,10 @@ module _ {V : Type 0} where
         fine_entry st (Call.Renew p) (λ left. did_renew p left) 5 0 _
         (λ pl h. renew_cases st.tables p pl RenewFine (λ fault no'. stays st _ _ no') (turns_away st (Call.Renew p) pl h.place h.was)
         (λ e is passed.
-        accepts st _ _ _ (λ fault is. cc) (reaches st _ p 0 (put_places _ _ _ h.place) (same_sheets p _) (same_rows _) (omega arith)) (handles st (Call.Renew p) pl h e is _ _ (λ i apart. refl)))
+        accepts st _ _ _ (λ fault is. cc) (put_places _ _ _ h.place) (same_sheets p _) (same_rows _) (omega arith) (handles st (Call.Renew p) pl h e is _ _ (λ i apart. refl)))
         (λ e row is unwritten came.
         let low = cursor_low st (Call.Renew p) pl h e is in
-        accepts st _ _ _ (λ fault is. cc) (reaches st _ p 0 (put_places _ _ _ h.place) (put_sheets p _ _ _ (omega arith)) (put_rows _ e.key row) (omega arith))
+        accepts st _ _ _ (λ fault is. cc) (put_places _ _ _ h.place) (put_sheets p _ _ _ (omega arith)) (put_rows _ e.key row) (omega arith)
         (handles st (Call.Renew p) pl h e is _ _ (λ i apart. nth_set_other st.tables.entries (base_of p + cursor_of pl) i _ apart))))
 
   -- ---- settle
@@ -273,12 +274,12 @@ module _ {V : Type 0} where
         fine_entry st (Call.Settle p) (λ answer. did_settle p answer.0 answer.1) 7 0 _
         (λ pl h. settle_cases st.tables p pl SettleFine (λ fault no'. stays st _ _ no')
         (λ is.
-        accepts st _ _ _ (λ fault is. cc) (reaches st _ p 0 (put_places _ _ _ h.place) (same_sheets p _) (same_rows _) (omega arith))
+        accepts st _ _ _ (λ fault is. cc) (put_places _ _ _ h.place) (same_sheets p _) (same_rows _) (omega arith)
         (record { place = pl; was = h.was; goes = goes_to st (Call.Settle p) pl h (freed pl); counted = (refl, cursor_past st (Call.Settle p) pl h is) }))
         (λ e is read.
-        accepts st _ _ _ (λ fault is. cc) (reaches st _ p 0 (put_places _ _ _ h.place) (same_sheets p _) (same_rows _) (omega arith)) (handles st (Call.Settle p) pl h e is _ _ (λ i apart. refl)))
+        accepts st _ _ _ (λ fault is. cc) (put_places _ _ _ h.place) (same_sheets p _) (same_rows _) (omega arith) (handles st (Call.Settle p) pl h e is _ _ (λ i apart. refl)))
         (λ e row is written came.
-        accepts st _ _ _ (λ fault is. cc) (reaches st _ p 0 (put_places _ _ _ h.place) (same_sheets p _) (put_rows _ e.key row) (omega arith)) (handles st (Call.Settle p) pl h e is _ _ (λ i apart. refl))))
+        accepts st _ _ _ (λ fault is. cc) (put_places _ _ _ h.place) (same_sheets p _) (put_rows _ e.key row) (omega arith) (handles st (Call.Settle p) pl h e is _ _ (λ i apart. refl))))
 
   -- ---- every call
 

@@ -67,7 +67,7 @@ module _ {V : Type 0} where
     -- The place stays busy, where the sheet has the write.
     busy_wrote : (k : ℕ) (v : V) (pl : Place) (sh : List (Entry V)) (e : Entry V) → pl.state ≡ 1 → pl.used ≤ 16 → pl.cursor ≤ pl.used → write_of e ≡ Some v
         → Grown k now_seat sh e pl.used → Busy (record { place = pl; sheet = sh; live = doing (writes k v) (live p es) })
-    busy_wrote k v pl sh e open'' few within is-v g =
+    busy_wrote k v pl sh e is_open few within is-v g =
         record {
           few = few;
           within = within;
