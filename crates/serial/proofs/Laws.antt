@@ -1,27 +1,25 @@
 -- Every call obeys the laws of its refusals and of its reach; its rule is taken apart stage by stage.
 --   Fine st call step    the laws of one call, of a step that it may come to
 --   lawful               the laws of every call
-use Rattle.std.proofs.Common.{◌≡◌, ℕ, ◌+◌, ◌-◌, ◌<◌, ◌≤◌, Bool, true, false, cond, eqb, ltb, ◌⊎◌, List, length, Some, None, Ok, Err, Option, Result, sym, refl, ap, ◌∙◌, subst, arith, length-set, ◌||◌, leb}
+use Rattle.std.proofs.Common.{◌≡◌, ℕ, ◌+◌, ◌-◌, ◌<◌, ◌≤◌, Bool, true, false, cond, eqb, ltb, ◌⊎◌, List, length, Some, None, Ok, Err, Option, Result, sym, refl, ap, ◌∙◌, subst, arith, length-set}
 use Rattle.std.specs.List.{slice_get}
 use Rattle.std.proofs.lemmas.Option.{slice_get_cases, slice_get_within}
 use Rattle.std.proofs.lemmas.Bool.{cond_both}
 use Rattle.std.proofs.lemmas.Bool.Decides.{nat_tests}
 use Rattle.home.specs.declared.fault.Fault.{Fault}
-use Rattle.home.specs.declared.fault.Refusal.TheVariants.{MovedOn}
 use Rattle.home.specs.declared.row.Row.{Row}
-use Rattle.home.specs.declared.row.Cause.{Cause}
-use Rattle.home.specs.declared.row.Change.TheVariants.{Free, Put}
-use Rattle.home.specs.Rows.{Outcome, refuses, grants}
+use Rattle.home.specs.Rows.{grants}
 use Rattle.home.proofs.Laws.{nth_set_other, nth_set_same}
-use Rattle.home.specs.Meaning.{Meaning, after, amended_at, changed, fault_at, is_place, looked, no_place, raised}
+use Rattle.home.specs.Meaning.{Meaning, after, is_place, raised}
 use Rattle.coordinator.specs.declared.call.Call.{Call}
 use Rattle.coordinator.specs.declared.tables.Place.{Place}
 use Rattle.coordinator.specs.declared.tables.Entry.{Entry}
-use Rattle.coordinator.specs.Tables.{at_cursor, base_of, count_of, cursor_of, entered, fault_of, put_entry, put_place, sheet, sought, tables, used_of}
-use Rattle.coordinator.specs.Calls.{Decision, Did, abort_turn, begin_turn, by_entry, comparing, comparing_at, decide_turn, deciding_at, ending, freed, freeze_turn, holding, holding_at, left_after, loses, onward, read_call, reading, reading_new, reading_row, renew_call, renewing, renewing_at, renewing_row, settle_call, settling, settling_row, turning, with_places, write_call, writing}
+use Rattle.coordinator.specs.Tables.{at_cursor, base_of, count_of, cursor_of, entered, put_entry, put_place, sheet, sought, tables, used_of}
+use Rattle.coordinator.specs.Calls.{Decision, Did, abort_turn, begin_turn, by_entry, decide_turn, deciding_at, freed, freeze_turn, holding, left_after, loses, onward, read_call, renew_call, settle_call, turning, with_places, write_call, writing}
 use Rattle.serial.specs.Events.{Event, Store, Step, by_decision, by_did, by_turn, did_abort, did_begin, did_decide, did_freeze, did_read, did_renew, did_settle, did_write, refused, stepped}
 use Rattle.serial.specs.Laws.{Handled, Lawful, OneEntry, Reaches, losing, place_of, raised_by}
 use Rattle.serial.proofs.Seats.{by_entered, place_range, sheet_length}
+use Rattle.serial.proofs.Rules.{read_cases, write_cases, renew_cases, settle_cases}
 use Rattle.serial.proofs.Keys.{sought_found}
 
 -- ---- what a step may alter of the places
@@ -36,23 +34,6 @@ put_places : (p : ℕ) (places : List Place) (pl : Place) → is_place p ≡ tru
 put_places p places pl at = (λ i apart. nth_set_other places (p - 1) i pl (λ same. apart (omega (arith, place_range p at))), length-set places (p - 1) pl)
 
 module _ {V : Type 0} where
-  -- ---- faults that lose nothing
-
-  -- A look is refused by 1.
-  look_fault : (m : Meaning V) (key : ℕ) (fault : Fault) → looked m key ≡ Err fault → loses fault ≡ false
-  unfolding looked
-  look_fault m key fault is = grind (arith, slice_get_cases m.rows key)
-
-  -- A put or a free is refused by 4, 1, 6, 3 or 7.
-  ending_fault : (m : Meaning V) (key p : ℕ) (pl : Place) (e : Entry V) (cause : Cause) → changed m key (ending p pl e) ≡ refuses cause → loses (fault_at p key cause) ≡ false
-  unfolding changed
-  ending_fault m key p pl e cause is = go (eqb pl.state 4) _ _ is
-    where
-      go : (wins b : Bool) (o : Option (Row V)) → cond b (amended_at m.last (cond wins (Put p e.value pl.ts) (Free p)) o) (refuses no_place) ≡ refuses cause → loses (fault_at p key cause) ≡ false
-      go true true (Some row) is = grind (arith, nat_tests)
-      go false true (Some row) is = grind (arith, nat_tests)
-      go wins b o is = grind arith
-
   -- ---- the laws of a step
 
   -- The store that a refusal leaves: `loss` for one that loses, and `here` what stands at the place.
@@ -131,23 +112,13 @@ module _ {V : Type 0} where
 
   -- ---- an accepted call
 
-  abbrev is_refusal : Event V → Bool
-  is_refusal (did_begin p) = false
-  is_refusal (did_read p key value) = false
-  is_refusal (did_write p key value ts) = false
-  is_refusal (did_freeze p ts) = false
-  is_refusal (did_renew p left) = false
-  is_refusal (did_decide p ts number) = false
-  is_refusal (did_settle p left freed) = false
-  is_refusal (did_abort p) = false
-  is_refusal (refused call fault) = true
-
-  accepts : (st new : Store V) (call : Call V) (e : Event V) → is_refusal e ≡ false → Reaches st new (place_of call) (raised_by e) → OneEntry st new e
-      → Fine st call (record { event = e; store = new })
-  accepts st new call e accepted reach single =
+  accepts : (st new : Store V) (call : Call V) (e : Event V) → ((fault : Fault) → e ≡ refused call fault → ⊥)
+      → OwnPlace (place_of call) st.tables.places new.tables.places → OwnSheet (place_of call) st.tables.entries new.tables.entries
+      → OneRow st.tables.home new.tables.home → new.counter ≡ st.counter + raised_by e → OneEntry st new e → Fine st call (record { event = e; store = new })
+  accepts st new call e accepted places entries home counter single =
       record {
-        refusal = λ fault is. cc (ap is_refusal is);
-        reach = reach;
+        refusal = λ fault is. absurd (accepted fault is);
+        reach = reaches st new (place_of call) (raised_by e) places entries home counter;
         single = single;
       }
 
@@ -173,12 +144,12 @@ module _ {V : Type 0} where
 
     -- The place alone is altered.
     fine_turn : {A : Type 0} (f : A → Event V) (code : ℕ) (rule : Place → A × Place)
-        → ((a : A) → is_refusal (f a) ≡ false) → ((a : A) → raised_by (f a) ≡ 0) → ((a : A) (new : Store V) → OneEntry st new (f a))
+        → ((a : A) (fault : Fault) → f a ≡ refused call fault → ⊥) → ((a : A) → raised_by (f a) ≡ 0) → ((a : A) (new : Store V) → OneEntry st new (f a))
         → Fine st call (by_turn st call f (turning st.tables.places (place_of call) rule (at_first code 0)))
     fine_turn f code rule accepted level single =
         by_first code 0 (λ r. by_turn st call f (turning st.tables.places (place_of call) rule r)) (λ fault. refl)
         (λ pl h.
-        accepts st _ call _ (accepted _) (reaches st _ _ _ (put_places _ _ _ h.place) (same_sheets _ _) (same_rows _) (omega (arith, level (rule pl).0))) (single _ _))
+        accepts st _ call _ (accepted _) (put_places _ _ _ h.place) (same_sheets _ _) (same_rows _) (omega (arith, level (rule pl).0)) (single _ _))
 
     -- Calls that look at the home.
     fine_entry : {A : Type 0} (f : A → Event V) (code key : ℕ) (rule : Place → Did V A)
@@ -187,15 +158,15 @@ module _ {V : Type 0} where
 
   fine_begin : (st : Store V) (p : ℕ) → Fine st (Call.Begin p) (stepped st (Call.Begin p))
   unfolding stepped begin_turn
-  fine_begin st p = fine_turn st (Call.Begin p) (λ _. did_begin p) 1 _ (λ _. refl) (λ _. refl) (λ _ new. tt {0})
+  fine_begin st p = fine_turn st (Call.Begin p) (λ _. did_begin p) 1 _ (λ _ fault is. cc) (λ _. refl) (λ _ new. tt {0})
 
   fine_freeze : (st : Store V) (p : ℕ) → Fine st (Call.Freeze p) (stepped st (Call.Freeze p))
   unfolding stepped freeze_turn
-  fine_freeze st p = fine_turn st (Call.Freeze p) (λ ts. did_freeze p ts) 4 _ (λ _. refl) (λ _. refl) (λ _ new. tt {0})
+  fine_freeze st p = fine_turn st (Call.Freeze p) (λ ts. did_freeze p ts) 4 _ (λ _ fault is. cc) (λ _. refl) (λ _ new. tt {0})
 
   fine_abort : (st : Store V) (p : ℕ) → Fine st (Call.Abort p) (stepped st (Call.Abort p))
   unfolding stepped abort_turn
-  fine_abort st p = fine_turn st (Call.Abort p) (λ _. did_abort p) 8 _ (λ _. refl) (λ _. refl) (λ _ new. tt {0})
+  fine_abort st p = fine_turn st (Call.Abort p) (λ _. did_abort p) 8 _ (λ _ fault is. cc) (λ _. refl) (λ _ new. tt {0})
 
   -- ---- decide
 
@@ -207,7 +178,7 @@ module _ {V : Type 0} where
       (λ none. cond_both (eqb (count_of st.counter) 999999) _ _ Ends (λ full. stays st _ _ refl)
       (λ more.
       let below : count_of st.counter ≡ 999999 → ⊥ = grind (arith, nat_tests) in
-      accepts st _ _ _ refl (reaches st _ p 1 (put_places _ _ _ h.place) (same_sheets _ _) (same_rows _) (omega arith)) tt)))
+      accepts st _ _ _ (λ fault is. cc) (put_places _ _ _ h.place) (same_sheets _ _) (same_rows _) (omega arith) tt)))
     where
       step : Decision (ℕ × ℕ) → Step V
       step d = by_decision st (Call.Decide p) (λ commit. did_decide p commit.0 commit.1) d
@@ -218,22 +189,13 @@ module _ {V : Type 0} where
   -- ---- read
 
   module _ (st : Store V) (p key : ℕ) where
-    abbrev ReadFine : Did V V → Type 0
-    ReadFine d = Fine st (Call.Read p key) (by_did st (Call.Read p key) (λ value. did_read p key value) d)
-
-    module _ (pl : Place) (h : Here st (Call.Read p key) pl) where
-      read_row : used_of pl < 16 → (r : Result (Row V) Fault) → looked st.tables.home key ≡ r → ReadFine (reading_row st.tables p key pl r)
-      read_row room (Err fault) is = stays st _ _ (look_fault _ key fault is)
-      read_row room (Ok row) is = accepts st _ _ _ refl (reaches st _ p 0 (put_places _ _ _ h.place) (put_sheets p _ _ _ room) (same_rows _) (omega arith)) tt
-
-      read_sheet : (o : Option (ℕ × Entry V)) → ReadFine (reading st.tables p key pl o)
-      unfolding reading_new
-      read_sheet (Some found) = accepts st st _ _ refl (reaches st st p 0 (same_places _ _) (same_sheets _ _) (same_rows _) (omega arith)) tt
-      read_sheet None = cond_both (eqb (used_of pl) 16) _ _ ReadFine (λ full. stays st _ _ refl) (λ room. read_row (grind (arith, nat_tests)) _ refl)
-
     fine_read : Fine st (Call.Read p key) (stepped st (Call.Read p key))
     unfolding stepped read_call
-    fine_read = fine_entry st (Call.Read p key) (λ value. did_read p key value) 2 key _ (λ pl h. read_sheet pl h _)
+    fine_read =
+        fine_entry st (Call.Read p key) (λ value. did_read p key value) 2 key _
+        (λ pl h. read_cases st.tables p pl key (λ d. Fine st (Call.Read p key) (by_did st (Call.Read p key) (λ value. did_read p key value) d)) (λ fault no'. stays st _ _ no')
+        (λ n e is. accepts st st _ _ (λ fault is. cc) (same_places _ _) (same_sheets _ _) (same_rows _) (omega arith) tt)
+        (λ row none room is. accepts st _ _ _ (λ fault is. cc) (put_places _ _ _ h.place) (put_sheets p _ _ _ room) (same_rows _) (omega arith) tt))
 
   -- ---- write
 
@@ -242,30 +204,22 @@ module _ {V : Type 0} where
     WriteFine d = Fine st (Call.Write p key value) (by_did st (Call.Write p key value) (λ ts. did_write p key value ts) d)
 
     module _ (pl : Place) (h : Here st (Call.Write p key value) pl) where
-      write_hold : (at used : ℕ) → at < 16 → (o : Outcome V) → WriteFine (holding st.tables p key value pl at used o)
-      write_hold at used low (refuses cause) = turns_away st (Call.Write p key value) pl h.place h.was (fault_at p key cause)
-      write_hold at used low (grants row) =
-          accepts st _ _ _ refl (reaches st _ p 0 (put_places _ _ _ h.place) (put_sheets p _ _ _ low) (put_rows _ key row) (omega arith)) tt
+      low_known : (n : ℕ) (e : Entry V) → sought key 0 (sheet p (used_of pl) st.tables.entries) ≡ Some (n, e) → n < 16
+      low_known n e is = omega (arith, sought_found key _ n e is, sheet_length p (used_of pl) st.tables.entries h.place (omega arith) h.long)
 
-      write_version : (at : ℕ) → at < 16 → (o : Option ℕ) → WriteFine (comparing st.tables p key value pl at o)
-      unfolding holding_at
-      write_version at low (Some wts) = turns_away st (Call.Write p key value) pl h.place h.was (fault_of MovedOn p key wts)
-      write_version at low None = write_hold at pl.used low _
+      write_hold : (n used : ℕ) (row : Row V) → n < 16 → WriteFine (holding st.tables p key value pl n used (grants row))
+      write_hold n used row low = accepts st _ _ _ (λ fault is. cc) (put_places _ _ _ h.place) (put_sheets p _ _ _ low) (put_rows _ key row) (omega arith) tt
 
-      write_sheet : (o : Option (ℕ × Entry V)) → sought key 0 (sheet p (used_of pl) st.tables.entries) ≡ o → WriteFine (writing st.tables p key value pl o)
-      unfolding holding_at comparing_at
-      write_sheet (Some found) is =
-          let size = sheet_length p (used_of pl) st.tables.entries h.place (omega arith) h.long in
-          let low : found.0 < 16 = omega (arith, sought_found key _ found.0 found.1 is) in
-          cond_both found.1.written _ _ WriteFine
-          (λ again. accepts st _ _ _ refl (reaches st _ p 0 (same_places _ _) (put_sheets p _ _ _ low) (same_rows _) (omega arith)) tt) (λ read. write_version found.0 low _)
-      write_sheet None is =
-          cond_both (eqb (used_of pl) 16) _ _ WriteFine (λ full. stays st _ _ refl)
-          (λ room. write_hold (used_of pl) (used_of pl + 1) (grind (arith, nat_tests)) _)
+      by_cases : WriteFine (writing st.tables p key value pl (sought key 0 (sheet p (used_of pl) st.tables.entries)))
+      by_cases =
+          write_cases st.tables p pl key value WriteFine (λ fault no'. stays st _ _ no') (turns_away st (Call.Write p key value) pl h.place h.was)
+          (λ n e is written. accepts st _ _ _ (λ fault is. cc) (same_places _ _) (put_sheets p _ _ _ (low_known n e is)) (same_rows _) (omega arith) tt)
+          (λ n e row is read stood came. write_hold n pl.used row (low_known n e is))
+          (λ row none room came. write_hold (used_of pl) (used_of pl + 1) row room)
 
     fine_write : Fine st (Call.Write p key value) (stepped st (Call.Write p key value))
     unfolding stepped write_call
-    fine_write = fine_entry st (Call.Write p key value) (λ ts. did_write p key value ts) 3 key _ (λ pl h. write_sheet pl h _ refl)
+    fine_write = fine_entry st (Call.Write p key value) (λ ts. did_write p key value ts) 3 key _ by_cases
 
   -- ---- the entry at the cursor
 
@@ -296,27 +250,17 @@ module _ {V : Type 0} where
     abbrev RenewFine : Did V ℕ → Type 0
     RenewFine d = Fine st (Call.Renew p) (by_did st (Call.Renew p) (λ left. did_renew p left) d)
 
-    module _ (pl : Place) (h : Here st (Call.Renew p) pl) where
-      renew_row : (e : Entry V) → at_cursor st.tables.entries p pl ≡ Some e → (o : Outcome V) → RenewFine (renewing_row st.tables p pl e o)
-      renew_row e is (refuses cause) = turns_away st (Call.Renew p) pl h.place h.was (fault_at p e.key cause)
-      renew_row e is (grants row) =
-          let low = cursor_low st (Call.Renew p) pl h e is in
-          accepts st _ _ _ refl (reaches st _ p 0 (put_places _ _ _ h.place) (put_sheets p _ _ _ (omega arith)) (put_rows _ e.key row) (omega arith))
-          (handles st (Call.Renew p) pl h e is _ _ (λ i apart. nth_set_other st.tables.entries (base_of p + cursor_of pl) i _ apart))
-
-      renew_cursor : (o : Option (Entry V)) → at_cursor st.tables.entries p pl ≡ o → RenewFine (renewing st.tables p pl o)
-      unfolding renewing_at
-      renew_cursor None is = stays st _ _ refl
-      renew_cursor (Some e) is =
-          cond_both (e.written || leb pl.ts e.rts) _ _ RenewFine
-          (λ kept.
-          accepts st _ _ _ refl (reaches st _ p 0 (put_places _ _ _ h.place) (same_sheets p _) (same_rows _) (omega arith))
-          (handles st (Call.Renew p) pl h e is _ _ (λ i apart. refl)))
-          (λ short. renew_row e is _)
-
     fine_renew : Fine st (Call.Renew p) (stepped st (Call.Renew p))
     unfolding stepped renew_call
-    fine_renew = fine_entry st (Call.Renew p) (λ left. did_renew p left) 5 0 _ (λ pl h. renew_cursor pl h _ refl)
+    fine_renew =
+        fine_entry st (Call.Renew p) (λ left. did_renew p left) 5 0 _
+        (λ pl h. renew_cases st.tables p pl RenewFine (λ fault no'. stays st _ _ no') (turns_away st (Call.Renew p) pl h.place h.was)
+        (λ e is passed.
+        accepts st _ _ _ (λ fault is. cc) (put_places _ _ _ h.place) (same_sheets p _) (same_rows _) (omega arith) (handles st (Call.Renew p) pl h e is _ _ (λ i apart. refl)))
+        (λ e row is unwritten came.
+        let low = cursor_low st (Call.Renew p) pl h e is in
+        accepts st _ _ _ (λ fault is. cc) (put_places _ _ _ h.place) (put_sheets p _ _ _ (omega arith)) (put_rows _ e.key row) (omega arith)
+        (handles st (Call.Renew p) pl h e is _ _ (λ i apart. nth_set_other st.tables.entries (base_of p + cursor_of pl) i _ apart))))
 
   -- ---- settle
 
@@ -324,27 +268,18 @@ module _ {V : Type 0} where
     abbrev SettleFine : Did V (ℕ × Bool) → Type 0
     SettleFine d = Fine st (Call.Settle p) (by_did st (Call.Settle p) (λ answer. did_settle p answer.0 answer.1) d)
 
-    module _ (pl : Place) (h : Here st (Call.Settle p) pl) where
-      settle_row : (e : Entry V) → at_cursor st.tables.entries p pl ≡ Some e
-          → (o : Outcome V) → changed st.tables.home e.key (ending p pl e) ≡ o → SettleFine (settling_row st.tables p pl e o)
-      settle_row e is (refuses cause) came = stays st _ _ (ending_fault st.tables.home e.key p pl e cause came)
-      settle_row e is (grants row) came =
-          accepts st _ _ _ refl (reaches st _ p 0 (put_places _ _ _ h.place) (same_sheets p _) (put_rows _ e.key row) (omega arith))
-          (handles st (Call.Settle p) pl h e is _ _ (λ i apart. refl))
-
-      settle_cursor : (o : Option (Entry V)) → at_cursor st.tables.entries p pl ≡ o → SettleFine (settling st.tables p pl o)
-      settle_cursor None is =
-          accepts st _ _ _ refl (reaches st _ p 0 (put_places _ _ _ h.place) (same_sheets p _) (same_rows _) (omega arith))
-          (record { place = pl; was = h.was; goes = goes_to st (Call.Settle p) pl h (freed pl); counted = (refl, cursor_past st (Call.Settle p) pl h is) })
-      settle_cursor (Some e) is =
-          cond_both e.written _ _ SettleFine (λ written. settle_row e is _ refl)
-          (λ read.
-          accepts st _ _ _ refl (reaches st _ p 0 (put_places _ _ _ h.place) (same_sheets p _) (same_rows _) (omega arith))
-          (handles st (Call.Settle p) pl h e is _ _ (λ i apart. refl)))
-
     fine_settle : Fine st (Call.Settle p) (stepped st (Call.Settle p))
     unfolding stepped settle_call
-    fine_settle = fine_entry st (Call.Settle p) (λ answer. did_settle p answer.0 answer.1) 7 0 _ (λ pl h. settle_cursor pl h _ refl)
+    fine_settle =
+        fine_entry st (Call.Settle p) (λ answer. did_settle p answer.0 answer.1) 7 0 _
+        (λ pl h. settle_cases st.tables p pl SettleFine (λ fault no'. stays st _ _ no')
+        (λ is.
+        accepts st _ _ _ (λ fault is. cc) (put_places _ _ _ h.place) (same_sheets p _) (same_rows _) (omega arith)
+        (record { place = pl; was = h.was; goes = goes_to st (Call.Settle p) pl h (freed pl); counted = (refl, cursor_past st (Call.Settle p) pl h is) }))
+        (λ e is read.
+        accepts st _ _ _ (λ fault is. cc) (put_places _ _ _ h.place) (same_sheets p _) (same_rows _) (omega arith) (handles st (Call.Settle p) pl h e is _ _ (λ i apart. refl)))
+        (λ e row is written came.
+        accepts st _ _ _ (λ fault is. cc) (put_places _ _ _ h.place) (same_sheets p _) (put_rows _ e.key row) (omega arith) (handles st (Call.Settle p) pl h e is _ _ (λ i apart. refl))))
 
   -- ---- every call
 

@@ -1,6 +1,7 @@
 pub mod Run
 pub mod Seats
 pub mod Keys
+pub mod Rules
 pub mod Invariant
 pub mod Moves
 pub mod Turns

@@ -1,19 +1,17 @@
 -- read: of a key in the sheet, and of a new one.
-use Rattle.std.proofs.Common.{◌≡◌, ℕ, ◌+◌, ◌-◌, ◌<◌, ◌≤◌, max, Bool, true, false, cond, eqb, leb, List, [], ◌∷◌, ◌++◌, length, Some, None, Ok, Err, Option, Result, sym, refl, ap, ◌∙◌, subst, arith, length-set}
+use Rattle.std.proofs.Common.{◌≡◌, ℕ, ◌+◌, ◌-◌, ◌<◌, ◌≤◌, max, Bool, true, false, cond, leb, List, [], ◌∷◌, ◌++◌, length, Some, None, Option, sym, refl, ap, ◌∙◌, subst, arith, length-set}
 use lib.Seq.{set-get_or}
 use Rattle.std.specs.List.{slice_get}
-use Rattle.std.proofs.lemmas.Option.{slice_get_cases, slice_get_within}
-use Rattle.std.proofs.lemmas.Bool.{cond_both}
+use Rattle.std.proofs.lemmas.Option.{slice_get_within}
 use Rattle.std.proofs.lemmas.Bool.Decides.{nat_tests}
 use Rattle.std.proofs.lemmas.List.{length_push}
-use Rattle.home.specs.declared.fault.Fault.{Fault}
 use Rattle.home.specs.declared.row.Row.{Row}
-use Rattle.home.specs.Meaning.{Meaning, is_place, looked}
+use Rattle.home.specs.Meaning.{is_place}
 use Rattle.coordinator.specs.declared.call.Call.{Call}
 use Rattle.coordinator.specs.declared.tables.Place.{Place}
 use Rattle.coordinator.specs.declared.tables.Entry.{Entry}
-use Rattle.coordinator.specs.Tables.{put_entry, sheet, sought, used_of, base_of}
-use Rattle.coordinator.specs.Calls.{Did, read_call, reading, reading_new, reading_row}
+use Rattle.coordinator.specs.Tables.{put_entry, sheet, used_of, base_of}
+use Rattle.coordinator.specs.Calls.{read_call}
 use Rattle.serial.specs.Events.{Event, Store, by_did, did_read, stepped}
 use Rattle.serial.specs.Transactions.{Live, Op, among, doing, is_some, keys_of, last_write, live, noted, pending_write, reads, serial_order, when, unsettled_write}
 use Rattle.serial.proofs.Run.{Sees, along, along_unwritten, along_written, among_noted, never_written, sees_skip, value_upto, when_none, written_among, open_is_last}
@@ -21,6 +19,7 @@ use Rattle.serial.proofs.Seats.{blank, place_at, sheet_other, sheet_push, sheet_
 use Rattle.serial.proofs.Keys.{found, found_pushed, found_unpushed, keyed, keyed_push, sought_found, sought_none, found_set, keyed_set}
 use Rattle.serial.proofs.Invariant.{Alike, Busy, Inv, KeyOk, LeaseOk, Seat, Seated, Stake, by_place, engaged, seat_of, stake_alike, undecided, won_alike, write_of, met, wrote, KeyIn, StakeIn, its_apart}
 use Rattle.serial.proofs.Moves.{Kept, entry_kept, inv_moves, inv_refused, moved_state, seat_in, stakes_but}
+use Rattle.serial.proofs.Rules.{read_cases}
 use Rattle.serial.proofs.Turns.{same_entries}
 
 pub known_keys : (k : ℕ) (ks : List ℕ) → among k ks ≡ true → noted k ks ≡ ks
@@ -251,29 +250,14 @@ module _ {V : Type 0} where
 
   -- ---- the whole call
 
-  pub looked_row : (m : Meaning V) (k : ℕ) (row : Row V) → looked m k ≡ Ok row → slice_get m.rows k ≡ Some row
-  unfolding looked
-  looked_row m k row is = grind (arith, slice_get_cases m.rows k)
-
   module _ (x : ℕ → Option V) (es : List (Event V)) (st : Store V) (i : Inv x es st) (p k : ℕ) where
-    abbrev ReadKept : Did V V → Type 0
-    ReadKept d = Kept x es (by_did st (Call.Read p k) (λ v. did_read p k v) d)
-
-    abbrev pl : Place
-    pl = place_at st.tables.places p
-
-    module _ (at : is_place p ≡ true) (open' : pl.state ≡ 1) where
-      by_row : found k (seat_of st es p).sheet ≡ None → used_of pl < 16 → (r : Result (Row V) Fault) → looked st.tables.home k ≡ r → ReadKept (reading_row st.tables p k pl r)
-      by_row unknown room (Err fault) is = inv_refused x es st (Call.Read p k) _ i
-      by_row unknown room (Ok row) is = read_new x es st p i at open' k row unknown room (looked_row st.tables.home k row is)
-
-      by_sheet : (o : Option (ℕ × Entry V)) → sought k 0 (seat_of st es p).sheet ≡ o → ReadKept (reading st.tables p k pl o)
-      unfolding reading_new
-      by_sheet (Some f) is = read_known x es st p i at open' k f.1 (sought_found k (seat_of st es p).sheet f.0 f.1 is).2
-      by_sheet None is =
-          cond_both (eqb (used_of pl) 16) _ _ ReadKept (λ full. inv_refused x es st (Call.Read p k) _ i)
-          (λ room. by_row (sought_none k 0 (seat_of st es p).sheet is) (grind (arith, nat_tests)) (looked st.tables.home k) refl)
-
     pub keeps_read : Inv x ((stepped st (Call.Read p k)).event ∷ es) (stepped st (Call.Read p k)).store
     unfolding stepped read_call
-    keeps_read = entry_kept x es st i (Call.Read p k) (λ v. did_read p k v) 2 p k _ (λ en. by_sheet en.place (grind (arith, nat_tests)) _ refl)
+    keeps_read =
+        entry_kept x es st i (Call.Read p k) (λ v. did_read p k v) 2 p k _
+        (λ en.
+        let open' : (place_at st.tables.places p).state ≡ 1 = grind (arith, nat_tests) in
+        read_cases st.tables p (place_at st.tables.places p) k (λ d. Kept x es (by_did st (Call.Read p k) (λ v. did_read p k v) d))
+        (λ fault _. inv_refused x es st (Call.Read p k) fault i)
+        (λ n e is. read_known x es st p i en.place open' k e (sought_found k (seat_of st es p).sheet n e is).2)
+        (λ row none room is. read_new x es st p i en.place open' k row (sought_none k 0 (seat_of st es p).sheet none) room is))

@@ -2,20 +2,17 @@
 use Rattle.std.proofs.Common.{◌≡◌, ℕ, ◌+◌, ◌<◌, ◌≤◌, true, false, ◌||◌, leb, List, ◌∷◌, length, set, Some, None, Option, sym, refl, ap, ◌∙◌, subst, inl, arith, length-set}
 use Rattle.std.specs.List.{slice_get}
 use Rattle.std.proofs.ByRecursion.{All-weaker}
-use Rattle.std.proofs.lemmas.Bool.{cond_both}
 use Rattle.std.proofs.lemmas.Option.{slice_get_within}
 use Rattle.std.proofs.lemmas.Bool.Decides.{nat_tests}
 use Rattle.home.specs.declared.row.Row.{Row}
-use Rattle.home.specs.declared.row.Change.{Change}
-use Rattle.home.specs.declared.row.Change.TheVariants.{Renew}
-use Rattle.home.specs.Rows.{Outcome, grants, refuses, renew_row}
-use Rattle.home.specs.Meaning.{changed, fault_at, is_place}
+use Rattle.home.specs.Rows.{grants, renew_row}
+use Rattle.home.specs.Meaning.{is_place}
 use Rattle.home.proofs.Laws.{granted, nth_set_other, nth_set_same}
 use Rattle.coordinator.specs.declared.call.Call.{Call}
 use Rattle.coordinator.specs.declared.tables.Place.{Place}
 use Rattle.coordinator.specs.declared.tables.Entry.{Entry}
 use Rattle.coordinator.specs.Tables.{at_cursor, cursor_of, put_entry, sheet, used_of, base_of}
-use Rattle.coordinator.specs.Calls.{Did, left_after, onward, renew_call, renewing, renewing_at, renewing_row, wish_of}
+use Rattle.coordinator.specs.Calls.{onward, renew_call}
 use Rattle.serial.specs.Events.{Event, Store, by_did, did_renew, stepped}
 use Rattle.serial.specs.Transactions.{Transaction, last_write, live, serial_order}
 use Rattle.serial.proofs.Run.{value_upto}
@@ -24,6 +21,7 @@ use Rattle.serial.proofs.Keys.{found, found_set, keyed, keyed_set, nth_found}
 use Rattle.serial.proofs.Invariant.{Busy, Inv, KeyOk, LeaseOk, Moves, Seat, Seated, Stake, by_place, seat_of, undecided, write_of, all_moved, its_apart, KeyIn, StakeIn}
 use Rattle.serial.proofs.Moves.{Kept, OnlyAt, alike_ok, entry_kept, inv_moves, inv_refused, moved, moved_state, seat_in}
 use Rattle.serial.proofs.Turns.{inv_lost, same_entries}
+use Rattle.serial.proofs.Rules.{renew_cases}
 use Rattle.serial.proofs.Changes.{free_won, inv_changes, with_row, lease_kept, stake_absent}
 
 module _ {V : Type 0} where
@@ -249,29 +247,17 @@ module _ {V : Type 0} where
             fresh = λ j apart. refl;
           })
 
-    -- ---- the rule, stage by stage
-
-    abbrev Keeps : Did V ℕ → Type 0
-    Keeps did = Kept x es (by_did st (Call.Renew p) (λ left. did_renew p left) did)
-
-    abbrev renewal_of : Entry V → Change V
-    renewal_of e = Renew e.wts here.ts (wish_of st.tables.home.last e.key here.ts)
-
-    keeps_row : here.state ≡ 2 → (e : Entry V) → at_cursor st.tables.entries p here ≡ Some e → e.written ≡ false
-        → (o : Outcome V) → changed st.tables.home e.key (renewal_of e) ≡ o → Keeps (renewing_row st.tables p here e o)
-    keeps_row frozen e is unwritten (refuses cause) came =
-        inv_lost x es st p i at (Call.Renew p) (fault_at p e.key cause) (grind (arith, nat_tests))
-    keeps_row frozen e is unwritten (grants new) came =
-        let g = granted st.tables.home e.key (renewal_of e) new came in
-        inv_longer frozen (left_after here) e is unwritten g.0 new g.1 (renewal _ _ _ _ g.0 new g.2)
-
-    keeps_cursor : here.state ≡ 2 → (o : Option (Entry V)) → at_cursor st.tables.entries p here ≡ o → Keeps (renewing st.tables p here o)
-    unfolding renewing_at
-    keeps_cursor frozen None is = inv_refused x es st (Call.Renew p) _ i
-    keeps_cursor frozen (Some e) is =
-        cond_both (e.written || leb here.ts e.rts) _ _ Keeps (inv_passed frozen (left_after here) e is) (λ test. keeps_row frozen e is (grind (arith, nat_tests)) _ refl)
-
   module _ (x : ℕ → Option V) (es : List (Event V)) (st : Store V) (i : Inv x es st) (p : ℕ) where
     pub keeps_renew : Inv x ((stepped st (Call.Renew p)).event ∷ es) (stepped st (Call.Renew p)).store
     unfolding stepped renew_call
-    keeps_renew = entry_kept x es st i (Call.Renew p) (λ left. did_renew p left) 5 p 0 _ (λ en. keeps_cursor x es st p i en.place (grind (arith, nat_tests)) _ refl)
+    keeps_renew =
+        entry_kept x es st i (Call.Renew p) (λ left. did_renew p left) 5 p 0 _
+        (λ en.
+        let frozen : (place_at st.tables.places p).state ≡ 2 = grind (arith, nat_tests) in
+        renew_cases st.tables p (place_at st.tables.places p) (λ d. Kept x es (by_did st (Call.Renew p) (λ left. did_renew p left) d))
+        (λ fault _. inv_refused x es st (Call.Renew p) fault i)
+        (λ fault. inv_lost x es st p i en.place (Call.Renew p) fault (grind (arith, nat_tests)))
+        (inv_passed x es st p i en.place frozen _)
+        (λ e new is unwritten came.
+        let g = granted st.tables.home e.key _ new came in
+        inv_longer x es st p i en.place frozen _ e is unwritten g.0 new g.1 (renewal _ _ _ _ g.0 new g.2)))

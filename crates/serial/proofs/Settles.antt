@@ -1,19 +1,18 @@
 -- settle: the next key of a place that has won or lost is handled, or the place becomes free.
 use Rattle.std.proofs.Common.{◌≡◌, ℕ, ◌<◌, ◌≤◌, Bool, true, false, cond, ◌&&◌, eqb, leb, List, ◌∷◌, Some, None, Option, sym, refl, ap, ◌∙◌, subst, inl, arith}
 use Rattle.std.specs.List.{slice_get, AllByRecursion as All}
-use Rattle.std.proofs.lemmas.Bool.{cond_both}
 use Rattle.std.proofs.lemmas.Option.{slice_get_within}
+use Rattle.std.proofs.lemmas.Bool.{cond_both}
 use Rattle.std.proofs.lemmas.Bool.Decides.{nat_tests}
 use Rattle.home.specs.declared.row.Row.{Row}
-use Rattle.home.specs.declared.row.Change.TheVariants.{Free, Put}
-use Rattle.home.specs.Rows.{Outcome, refuses, grants, amended, free_row, put_row}
-use Rattle.home.specs.Meaning.{Meaning, changed, fault_at, is_place}
+use Rattle.home.specs.Rows.{grants, amended, free_row, put_row}
+use Rattle.home.specs.Meaning.{Meaning, is_place}
 use Rattle.home.proofs.Laws.{granted}
 use Rattle.coordinator.specs.declared.call.Call.{Call}
 use Rattle.coordinator.specs.declared.tables.Place.{Place}
 use Rattle.coordinator.specs.declared.tables.Entry.{Entry}
 use Rattle.coordinator.specs.Tables.{at_cursor, cursor_of, sheet, used_of}
-use Rattle.coordinator.specs.Calls.{Did, ending, freed, left_after, onward, settle_call, settling, settling_row}
+use Rattle.coordinator.specs.Calls.{ending, freed, left_after, onward, settle_call}
 use Rattle.serial.specs.Events.{Event, Store, by_did, did_settle, stepped}
 use Rattle.serial.specs.Transactions.{Live, Transaction, among, nothing_done, is_some, keys_of, last_write, live, next_write, one_if, pending_write, serial_order, settling_now, when, unsettled_write, write_at}
 use Rattle.serial.proofs.Run.{value_upto}
@@ -22,6 +21,7 @@ use Rattle.serial.proofs.Keys.{among_drop, among_here, apart_past, drop_none, ke
 use Rattle.serial.proofs.Invariant.{Busy, Inv, KeyOk, Moves, Seat, Seated, Stake, bound, by_place, seat_of, standing, undecided, all_moved, its_apart, wrote, KeyIn, busy_stays}
 use Rattle.serial.proofs.Moves.{Kept, alike_ok, entry_kept, inv_moves, inv_refused, moved, moved_state, seat_in}
 use Rattle.serial.proofs.Changes.{holds_none, inv_changes, loser_won, with_row, lease_kept, stake_absent}
+use Rattle.serial.proofs.Rules.{settle_cases}
 use Rattle.serial.proofs.Turns.{same_entries}
 
 module _ {V : Type 0} where
@@ -273,31 +273,19 @@ module _ {V : Type 0} where
             -- A winner puts, a loser frees.
             inv_ended : (new : Row V) → amended st.tables.home.last (ending p here e) row ≡ grants new
                 → After new
-            inv_ended new is' = go (eqb here.state 4) refl is'
-              where
-                go : (b : Bool) → eqb here.state 4 ≡ b → amended st.tables.home.last (cond b (Put p e.value here.ts) (Free p)) row ≡ grants new
-                    → After new
-                go true state is' = inv_put new state is'
-                go false state is' = inv_free new state is'
-
-      -- ---- the call, stage by stage
-
-      abbrev SettleKept : Did V (ℕ × Bool) → Type 0
-      SettleKept d = Kept x es (by_did st (Call.Settle p) (λ answer. did_settle p answer.0 answer.1) d)
-
-      by_row : (e : Entry V) → at_cursor entries p here ≡ Some e → e.written ≡ true
-          → (o : Outcome V) → changed st.tables.home e.key (ending p here e) ≡ o → SettleKept (settling_row st.tables p here e o)
-      by_row e is written (refuses cause) came = inv_refused x es st (Call.Settle p) (fault_at p e.key cause) i
-      by_row e is written (grants new) came =
-          let g = granted st.tables.home e.key (ending p here e) new came in
-          inv_ended e is written g.0 g.1 new g.2
-
-      by_entry : (o : Option (Entry V)) → at_cursor entries p here ≡ o → SettleKept (settling st.tables p here o)
-      by_entry None is = inv_freed is
-      by_entry (Some e) is = cond_both e.written _ _ SettleKept (λ written. by_row e is written _ refl) (inv_read e is)
+            inv_ended new = cond_both (eqb here.state 4) _ _ (λ change. amended st.tables.home.last change row ≡ grants new → After new) (inv_put new) (inv_free new)
 
   module _ (x : ℕ → Option V) (es : List (Event V)) (st : Store V) (i : Inv x es st) (p : ℕ) where
     pub keeps_settle : Inv x ((stepped st (Call.Settle p)).event ∷ es) (stepped st (Call.Settle p)).store
     unfolding stepped settle_call
     keeps_settle =
-        entry_kept x es st i (Call.Settle p) (λ answer. did_settle p answer.0 answer.1) 7 p 0 _ (λ en. by_entry x es st p i en.place (grind (arith, nat_tests)) _ refl)
+        entry_kept x es st i (Call.Settle p) (λ answer. did_settle p answer.0 answer.1) 7 p 0 _
+        (λ en.
+        let ends : leb 3 (place_at st.tables.places p).state && leb (place_at st.tables.places p).state 4 ≡ true = grind (arith, nat_tests) in
+        settle_cases st.tables p (place_at st.tables.places p) (λ d. Kept x es (by_did st (Call.Settle p) (λ answer. did_settle p answer.0 answer.1) d))
+        (λ fault _. inv_refused x es st (Call.Settle p) fault i)
+        (inv_freed x es st p i en.place ends)
+        (inv_read x es st p i en.place ends)
+        (λ e new is written came.
+        let g = granted st.tables.home e.key (ending p (place_at st.tables.places p) e) new came in
+        inv_ended x es st p i en.place ends e is written g.0 g.1 new g.2))

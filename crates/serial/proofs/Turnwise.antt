@@ -1,26 +1,23 @@
 -- Each accepted call has its turn in the transaction at its place.
 --   keeps_runs    a transaction runs at a place exactly while the place is engaged, after every call
 --   in_turn       what is accepted is what the transaction may do next
-use Rattle.std.proofs.Common.{◌≡◌, ℕ, ◌+◌, ◌≤◌, Bool, true, false, ◌&&◌, ◌||◌, eqb, ltb, leb, List, ◌∷◌, length, Some, None, Ok, Err, Option, Result, sym, refl, ap, ◌∙◌, subst, arith}
+use Rattle.std.proofs.Common.{◌≡◌, ℕ, ◌≤◌, Bool, true, false, ◌&&◌, eqb, ltb, leb, List, ◌∷◌, length, Some, None, Ok, Err, Option, Result, sym, refl, ap, ◌∙◌, subst, arith}
 use lib.ListN.{length-map}
 use Rattle.std.proofs.lemmas.Bool.{cond_both}
 use Rattle.std.proofs.lemmas.Option.{slice_get_cases, slice_get_within}
 use Rattle.std.proofs.lemmas.Bool.Decides.{nat_tests}
 use Rattle.home.specs.declared.fault.Fault.{Fault}
-use Rattle.home.specs.declared.fault.Refusal.TheVariants.{MovedOn}
-use Rattle.home.specs.declared.row.Row.{Row}
-use Rattle.home.specs.declared.row.Change.TheVariants.{Hold, Renew}
-use Rattle.home.specs.Rows.{Outcome, refuses, grants}
-use Rattle.home.specs.Meaning.{changed, fault_at, is_place, looked}
+use Rattle.home.specs.Meaning.{is_place}
 use Rattle.coordinator.specs.declared.call.Call.{Call}
 use Rattle.coordinator.specs.declared.tables.Place.{Place}
 use Rattle.coordinator.specs.declared.tables.Entry.{Entry}
-use Rattle.coordinator.specs.Tables.{Tables, at_cursor, count_of, cursor_of, entered, fault_of, put_place, sheet, sought, used_of}
-use Rattle.coordinator.specs.Calls.{Decision, Did, Turn, abort_turn, at_place, begin_turn, by_entry, comparing, comparing_at, decide_turn, deciding, deciding_at, freed, freeze_turn, holding, holding_at, left_after, loses, lost_if, moved_on, onward, read_call, reading, reading_new, reading_row, renew_call, renewing, renewing_at, renewing_row, settle_call, settling, settling_row, turning, wish_of, write_call, writing}
+use Rattle.coordinator.specs.Tables.{Tables, at_cursor, count_of, cursor_of, entered, put_place, sheet, sought, used_of}
+use Rattle.coordinator.specs.Calls.{Decision, Did, Turn, abort_turn, at_place, begin_turn, by_entry, decide_turn, deciding, deciding_at, freed, freeze_turn, left_after, loses, lost_if, onward, read_call, reading, renew_call, renewing, settle_call, settling, turning, write_call, writing}
 use Rattle.serial.specs.Events.{Event, Store, did_abort, did_begin, did_decide, did_freeze, did_read, did_renew, did_settle, did_write, happens, stepped}
 use Rattle.serial.specs.Transactions.{InTurn, Live, Undecided, keys_of, live, running}
 use Rattle.serial.proofs.Seats.{Entered, by_entered, place_at, place_other, place_same}
-use Rattle.serial.proofs.Invariant.{Inv, Runs, by_place, engaged, seat_of}
+use Rattle.serial.proofs.Rules.{read_cases, write_cases, renew_cases, settle_cases}
+use Rattle.serial.proofs.Invariant.{Inv, Runs, by_place, engaged}
 
 -- ---- which places are engaged
 
@@ -68,46 +65,17 @@ module _ {V : Type 0} where
     abbrev pl : Place
     pl = place_at t.places p
 
-    module _ (k : ℕ) where
-      read_row : (r : Result (Row V) Fault) → Stays t (reading_row t p k pl r)
-      read_row (Err fault) = λ q at. refl
-      read_row (Ok row) = c.stored _ c.busy
+    read_stays : (k : ℕ) → Stays t (reading t p k pl (sought k 0 (sheet p (used_of pl) t.entries)))
+    read_stays k = read_cases t p pl k (Stays t) (λ fault _ q at. refl) (λ n e is q at. refl) (λ row none room is. c.stored _ c.busy)
 
-      read_stays : (o : Option (ℕ × Entry V)) → Stays t (reading t p k pl o)
-      unfolding reading_new
-      read_stays (Some found) = λ q at. refl
-      read_stays None = cond_both (eqb (used_of pl) 16) _ _ (Stays t) (λ _ q at. refl) (λ _. read_row (looked t.home k))
+    write_stays : (k : ℕ) (v : V) → Stays t (writing t p k v pl (sought k 0 (sheet p (used_of pl) t.entries)))
+    write_stays k v =
+        write_cases t p pl k v (Stays t) (λ fault _ q at. refl) (lost_same t.places p c) (λ n e is written q at. refl)
+        (λ n e row is read stood came. c.stored _ c.busy) (λ row none room came. c.stored _ c.busy)
 
-      hold_row : (v : V) (n used : ℕ) (o : Outcome V) → Stays t (holding t p k v pl n used o)
-      hold_row v n used (refuses cause) = lost_same t.places p c (fault_at p k cause)
-      hold_row v n used (grants row) = c.stored _ c.busy
-
-      hold_stays : (v : V) (n used : ℕ) → Stays t (holding_at t p k v pl n used)
-      unfolding holding_at
-      hold_stays v n used = hold_row v n used (changed t.home k (Hold p))
-
-      compare_row : (v : V) (n : ℕ) (o : Option ℕ) → Stays t (comparing t p k v pl n o)
-      compare_row v n (Some wts) = lost_same t.places p c (fault_of MovedOn p k wts)
-      compare_row v n None = hold_stays v n pl.used
-
-      compare_stays : (v : V) (n wts : ℕ) → Stays t (comparing_at t p k v pl n wts)
-      unfolding comparing_at
-      compare_stays v n wts = compare_row v n (moved_on wts (looked t.home k))
-
-      write_stays : (v : V) (o : Option (ℕ × Entry V)) → Stays t (writing t p k v pl o)
-      write_stays v (Some found) = cond_both found.1.written _ _ (Stays t) (λ _ q at. refl) (λ _. compare_stays v found.0 found.1.wts)
-      write_stays v None = cond_both (eqb (used_of pl) 16) _ _ (Stays t) (λ _ q at. refl) (λ _. hold_stays v (used_of pl) (used_of pl + 1))
-
-    renew_row : (e : Entry V) (o : Outcome V) → Stays t (renewing_row t p pl e o)
-    renew_row e (refuses cause) = lost_same t.places p c (fault_at p e.key cause)
-    renew_row e (grants row) = c.stored _ c.busy
-
-    renew_stays : (o : Option (Entry V)) → Stays t (renewing t p pl o)
-    unfolding renewing_at
-    renew_stays None = λ q at. refl
-    renew_stays (Some e) =
-        cond_both (e.written || leb pl.ts e.rts) _ _ (Stays t) (λ _. c.stored _ c.busy)
-        (λ _. renew_row e (changed t.home e.key (Renew e.wts pl.ts (wish_of t.home.last e.key pl.ts))))
+    renew_stays : Stays t (renewing t p pl (at_cursor t.entries p pl))
+    renew_stays =
+        renew_cases t p pl (Stays t) (λ fault _ q at. refl) (lost_same t.places p c) (λ e is passed. c.stored _ c.busy) (λ e row is unwritten came. c.stored _ c.busy)
 
   -- ---- settle: refused, the place freed, or the next entry handled
 
@@ -116,19 +84,6 @@ module _ {V : Type 0} where
     abbrev at_settle : Place
     at_settle = place_at t.places p
 
-    module _ (done : at_cursor t.entries p at_settle ≡ None → P (Ok (0, true)) (put_place t.places p (freed at_settle)))
-        (next : (e : Entry V) → at_cursor t.entries p at_settle ≡ Some e → P (Ok (left_after at_settle, false)) (put_place t.places p (onward at_settle))) where
-      abbrev Comes : Did V (ℕ × Bool) → Type 0
-      Comes d = P d.answer d.tables.places
-
-      settle_row : (e : Entry V) → at_cursor t.entries p at_settle ≡ Some e → (o : Outcome V) → Comes (settling_row t p at_settle e o)
-      settle_row e is (refuses cause) = refusal (fault_at p e.key cause)
-      settle_row e is (grants row) = next e is
-
-      settle_at : (o : Option (Entry V)) → at_cursor t.entries p at_settle ≡ o → Comes (settling t p at_settle o)
-      settle_at None is = done is
-      settle_at (Some e) is = cond_both e.written _ _ Comes (λ _. settle_row e is _) (λ _. next e is)
-
     settle_comes : (Entered 7 t.places (length t.entries) p → at_cursor t.entries p at_settle ≡ None → P (Ok (0, true)) (put_place t.places p (freed at_settle)))
         → (Entered 7 t.places (length t.entries) p → (e : Entry V) → at_cursor t.entries p at_settle ≡ Some e
         → P (Ok (left_after at_settle, false)) (put_place t.places p (onward at_settle)))
@@ -136,7 +91,8 @@ module _ {V : Type 0} where
     unfolding settle_call
     settle_comes done next =
         by_entered 7 t.places (length t.entries) p 0 (λ r. P (came r).answer (came r).tables.places)
-        (λ fault _. refusal fault) (λ en. settle_at (done en) (next en) _ refl)
+        (λ fault _. refusal fault)
+        (λ en. settle_cases t p at_settle (λ d. P d.answer d.tables.places) (λ fault _. refusal fault) (done en) (λ e is read. next en e is) (λ e row is written came. next en e is))
       where
         came : Result Place Fault → Did V (ℕ × Bool)
         came r = by_entry t (λ pl. settling t p pl (at_cursor t.entries p pl)) r
@@ -217,12 +173,12 @@ module _ {V : Type 0} where
   unfolding stepped read_call write_call renew_call freeze_turn abort_turn
   keeps_runs es st many r (Call.Begin p) = begin_runs es st r p
   keeps_runs es st many r (Call.Read p k) = entry_runs es st r p 2 k (Call.Read p k) (λ v. did_read p k v) refl (λ v q. refl) _
-      (λ c. read_stays st.tables p c k (sought k 0 (seat_of st es p).sheet))
+      (λ c. read_stays st.tables p c k)
   keeps_runs es st many r (Call.Write p k v) = entry_runs es st r p 3 k (Call.Write p k v) (λ ts. did_write p k v ts) refl (λ ts q. refl) _
-      (λ c. write_stays st.tables p c k v (sought k 0 (seat_of st es p).sheet))
+      (λ c. write_stays st.tables p c k v)
   keeps_runs es st many r (Call.Freeze p) = turn_runs es st r p 4 0 (Call.Freeze p) (λ ts. did_freeze p ts) refl (λ ts q. refl) _ refl
   keeps_runs es st many r (Call.Renew p) = entry_runs es st r p 5 0 (Call.Renew p) (λ left. did_renew p left) refl (λ left q. refl) _
-      (λ c. renew_stays st.tables p c (at_cursor st.tables.entries p (place_at st.tables.places p)))
+      (renew_stays st.tables p)
   keeps_runs es st many r (Call.Decide p) = decide_runs es st r p
   keeps_runs es st many r (Call.Settle p) = settle_runs es st r p
   keeps_runs es st many r (Call.Abort p) = turn_runs es st r p 8 0 (Call.Abort p) (λ _. did_abort p) refl (λ _ q. refl) _ refl

@@ -1,18 +1,17 @@
 -- write: of a key already written, of one that was read, and of a new one.
 use Rattle.std.proofs.Common.{◌≡◌, ℕ, ◌+◌, ◌<◌, ◌≤◌, min, max, true, false, eqb, List, ◌∷◌, length, Some, None, Ok, Option, sym, refl, ap, ◌∙◌, subst, inr, arith, length-set}
 use Rattle.std.specs.List.{slice_get, AllByRecursion as All}
-use Rattle.std.proofs.lemmas.Bool.{cond_both}
 use Rattle.std.proofs.lemmas.Bool.Decides.{nat_tests}
 use Rattle.home.specs.declared.row.Row.{Row}
 use Rattle.home.specs.declared.row.Change.TheVariants.{Hold}
-use Rattle.home.specs.Rows.{Outcome, grants, hold_row, refuses}
-use Rattle.home.specs.Meaning.{changed, is_place, looked}
+use Rattle.home.specs.Rows.{grants, hold_row}
+use Rattle.home.specs.Meaning.{changed, is_place}
 use Rattle.home.proofs.Laws.{granted as granted-change, looked_at}
 use Rattle.coordinator.specs.declared.call.Call.{Call}
 use Rattle.coordinator.specs.declared.tables.Place.{Place}
 use Rattle.coordinator.specs.declared.tables.Entry.{Entry}
 use Rattle.coordinator.specs.Tables.{put_entry, sheet, sought, used_of, base_of}
-use Rattle.coordinator.specs.Calls.{Did, comparing, comparing_at, holding, holding_at, moved_on, write_call, writing}
+use Rattle.coordinator.specs.Calls.{Did, holding, moved_on, write_call, writing}
 use Rattle.serial.specs.Events.{Event, Store, by_did, did_write, stepped}
 use Rattle.serial.specs.Transactions.{Live, Op, Transaction, among, doing, is_none, is_some, keys_of, last_write, live, noted, one_if, pending_write, serial_order, when, unsettled_write, writes}
 use Rattle.serial.proofs.Run.{Sees, among_noted, never_written, sees_skip, open_is_last}
@@ -22,6 +21,7 @@ use Rattle.serial.proofs.Invariant.{Alike, Busy, Inv, KeyOk, Seat, by_place, sea
 use Rattle.serial.proofs.Moves.{Kept, entry_kept, inv_moves, inv_refused, moved, moved_state, seat_in, stakes_but}
 use Rattle.serial.proofs.Turns.{inv_lost}
 use Rattle.serial.proofs.Changes.{free_won, holds_none, inv_changes, with_row, lease_kept, stake_absent}
+use Rattle.serial.proofs.Rules.{write_cases}
 use Rattle.serial.proofs.ReadSteps.{Grown, pushed, stored, is_busy, known_keys, no_win, none_handled, not_decided, same_state}
 
 -- A key is among the others as before, once one more is noted.
@@ -67,7 +67,7 @@ module _ {V : Type 0} where
     -- The place stays busy, where the sheet has the write.
     busy_wrote : (k : ℕ) (v : V) (pl : Place) (sh : List (Entry V)) (e : Entry V) → pl.state ≡ 1 → pl.used ≤ 16 → pl.cursor ≤ pl.used → write_of e ≡ Some v
         → Grown k now_seat sh e pl.used → Busy (record { place = pl; sheet = sh; live = doing (writes k v) (live p es) })
-    busy_wrote k v pl sh e open'' few within is-v g =
+    busy_wrote k v pl sh e is_open few within is-v g =
         record {
           few = few;
           within = within;
@@ -297,35 +297,24 @@ module _ {V : Type 0} where
       abbrev pl : Place
       pl = place_at st.tables.places p
 
-      -- the hold's outcome, where the entry that it writes has its place
-      by_hold : (n used : ℕ) → ((row : Row V) → slice_get st.tables.home.rows k ≡ Some row → row.holder ≡ 0 → Taken x es st p i at open' k v row n used)
-          → (o : Outcome V) → changed st.tables.home k (Hold p) ≡ o → WriteKept (holding st.tables p k v pl n used o)
-      by_hold n used taken (refuses cause) is = inv_lost x es st p i at (Call.Write p k v) _ (grind (arith, nat_tests))
-      by_hold n used taken (grants new) is =
+      -- a granted hold, where the entry that it writes has its place
+      by_hold : (n used : ℕ) (new : Row V) → ((row : Row V) → slice_get st.tables.home.rows k ≡ Some row → row.holder ≡ 0 → Taken x es st p i at open' k v row n used)
+          → changed st.tables.home k (Hold p) ≡ grants new → WriteKept (holding st.tables p k v pl n used (grants new))
+      by_hold n used new taken is =
           let g = granted-change st.tables.home k (Hold p) new is in
           let h = hold_granted st.tables.home.last p g.0 new g.2 in
           subst (λ (o : Row V). WriteKept (holding st.tables p k v pl n used (grants o))) (sym h.1) (write_held x es st p i at open' k v g.0 n used (taken g.0 g.1 h.0) h.0 g.1)
 
-      by_version : (n : ℕ) (e : Entry V) → sought k 0 (seat_of st es p).sheet ≡ Some (n, e) → e.written ≡ false
-          → (o : Option ℕ) → moved_on e.wts (looked st.tables.home k) ≡ o → WriteKept (comparing st.tables p k v pl n o)
-      unfolding holding_at
-      by_version n e is read (Some wts) moved' = inv_lost x es st p i at (Call.Write p k v) _ (grind (arith, nat_tests))
-      by_version n e is read None stood =
-          by_hold n pl.used
-          (λ row row_is free. taken_read x es st p i at open' k v n e is row read free (still_stands e.wts row free (ap (moved_on e.wts) (sym (looked_at st.tables.home k row row_is)) ∙ stood)))
-          (changed st.tables.home k (Hold p)) refl
-
-      by_sheet : (o : Option (ℕ × Entry V)) → sought k 0 (seat_of st es p).sheet ≡ o → WriteKept (writing st.tables p k v pl o)
-      unfolding holding_at comparing_at
-      by_sheet (Some f) is =
-          cond_both f.1.written _ _ WriteKept (write_again x es st p i at open' k v f.0 f.1 is)
-          (λ read. by_version f.0 f.1 is read (moved_on f.1.wts (looked st.tables.home k)) refl)
-      by_sheet None is =
-          cond_both (eqb (used_of pl) 16) _ _ WriteKept (λ full. inv_refused x es st (Call.Write p k v) _ i)
-          (λ room. by_hold (used_of pl) (used_of pl + 1)
-          (λ row row_is free. taken_new x es st p i at open' k v row (sought_none k 0 (seat_of st es p).sheet is) (grind (arith, nat_tests)))
-          (changed st.tables.home k (Hold p)) refl)
+      by_cases : WriteKept (writing st.tables p k v pl (sought k 0 (seat_of st es p).sheet))
+      by_cases =
+          write_cases st.tables p pl k v WriteKept (λ fault _. inv_refused x es st (Call.Write p k v) fault i)
+          (λ fault. inv_lost x es st p i at (Call.Write p k v) fault (grind (arith, nat_tests)))
+          (write_again x es st p i at open' k v)
+          (λ n e new is read stood. by_hold n pl.used new
+          (λ row row_is free. taken_read x es st p i at open' k v n e is row read free (still_stands e.wts row free (ap (moved_on e.wts) (sym (looked_at st.tables.home k row row_is)) ∙ stood))))
+          (λ new none room. by_hold (used_of pl) (used_of pl + 1) new
+          (λ row row_is free. taken_new x es st p i at open' k v row (sought_none k 0 (seat_of st es p).sheet none) room))
 
     pub keeps_write : Inv x ((stepped st (Call.Write p k v)).event ∷ es) (stepped st (Call.Write p k v)).store
     unfolding stepped write_call
-    keeps_write = entry_kept x es st i (Call.Write p k v) (λ ts. did_write p k v ts) 3 p k _ (λ en. by_sheet en.place (grind (arith, nat_tests)) _ refl)
+    keeps_write = entry_kept x es st i (Call.Write p k v) (λ ts. did_write p k v ts) 3 p k _ (λ en. by_cases en.place (grind (arith, nat_tests)))
