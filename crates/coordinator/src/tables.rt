@@ -32,8 +32,8 @@ impl Place {
     }
 }
 
-// What a transaction knows of one key. The sheet of place p is the sixteen entries from 16 × (p − 1) on. All is side by
-// side, as it lies in the caller's table: an entry has a value whether it is written or not.
+// What a transaction knows of one key. The sheet of place p is the sixteen entries from 16 × (p − 1) on. All lies side
+// by side, as in the caller's table: an entry has a value whether it is written or not.
 #[derive(Clone, Copy, PartialEq, Eq, Debug)]
 pub struct Entry<V> {
     pub key: u32,
