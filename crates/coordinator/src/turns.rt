@@ -1,4 +1,5 @@
-// The calls that alter the places alone, and the counter: begin, freeze, decide, abort.
+// The calls that alter the places alone, and the counter: begin, freeze, decide, abort. They are short, and each has a
+// rule and an answer of its own, so none is made of another.
 ghost use Rattle.std.specs.Prelude.{◌≡◌, length};
 ghost use Rattle.coordinator.specs.Calls.{abort_turn, begin_turn, decide_turn, freeze_turn};
 
