@@ -1,40 +1,18 @@
--- Orders served from the first on.
-use Rattle.std.proofs.Common.{◌≡◌, ℕ, ◌+◌, ◌<◌, ◌≤◌, Bool, true, false, cond, ◌&&◌, eqb, List, [], ◌∷◌, ◌++◌, length, get_or, drop, is_ok, Ok, Err, Result, sym, refl, ap, ◌∙◌, subst, arith}
-use Rattle.std.proofs.lemmas.List.{drop_more, drop_all}
+-- What the two tables hold once the homes over them have ended.
+use Rattle.std.proofs.Common.{◌≡◌, ℕ, Bool, true, false, cond, List, [], ◌++◌, length, is_ok, Ok, Err, Result, sym, refl, ap, ◌∙◌, subst}
 use Rattle.home.specs.declared.fault.Fault.{Fault}
 use Rattle.home.specs.Meaning.{Meaning}
-use Rattle.home.specs.Memory.{Memory, Parts, idle, in_bytes, in_rows, in_two, parted}
-use Rattle.home.specs.Opening.{is_count, after_size, table_meaning}
+use Rattle.home.specs.Memory.{Memory, in_bytes, in_rows}
+use Rattle.home.specs.Opening.{table_meaning}
 use Rattle.row_home.specs.Opening.{row_check}
 use Rattle.home.specs.declared.row.Row.{Row}
 use Rattle.kinds.specs.Words.{node_reading, node_value}
 use Rattle.byte_home.specs.Bytes.{byte_check, read_rows, word_rows}
-use Rattle.split_home.specs.Splits.{split_check, split_fits, split_made, split_meaning, split_opened, split_parts, split_size, two_lasts}
+use Rattle.split_home.specs.Splits.{split_check}
 use Rattle.kinds.specs.declared.node.Node.{Node}
-use Rattle.quotes.specs.declared.tally.Tally.{Tally}
 use Rattle.quotes.specs.declared.order.Order.{Order}
-use Rattle.quotes.specs.Days.{Day, Served, Tables, and_then, curve_check, day, far_home, morning, morning_answer, near_home, no_tally, tallied}
-use Rattle.quotes.specs.Orders.{served, told}
-
--- one order more
-pub day_more : (d : Day) (orders : List Order) (i : ℕ) (x : Order) (home : Meaning Node) (tally : Tally) (answer : Result (Unit {0}) Fault) → i < length orders
-    → home ≡ served d.home (get_or orders i x) → answer ≡ told d.home (get_or orders i x) → tally ≡ tallied d.tally answer
-    → day d (drop i orders) ≡ day (record { home = home; tally = tally }) (drop (i + 1) orders)
-day_more d orders i x home tally answer within left told' counted =
-    let next : day d (drop i orders) ≡ day d (get_or orders i x ∷ drop (i + 1) orders) = ap (day d) (drop_more orders i x within) in
-    next
-    ∙ ap (λ h. day (record { home = h; tally = tallied d.tally (told d.home (get_or orders i x)) }) (drop (i + 1) orders)) (sym left)
-    ∙ ap (λ t. day (record { home = home; tally = t }) (drop (i + 1) orders)) (sym (counted ∙ ap (tallied d.tally) told'))
-
--- no order left
-pub day_all : (d : Day) (orders : List Order) (i : ℕ) → length orders ≤ i → day d (drop i orders) ≡ d
-day_all d orders i past = ap (day d) (drop_all i orders past)
-
--- ---- two homes side by side
-
--- what the memory of two homes is made of
-pub two_parts : (a a' b b' : ℕ) (m m' n n' : Memory Node) (p p' : Parts Node) → in_two a m b n p ≡ in_two a' m' b' n' p' → (a ≡ a') × (m ≡ m') × (b ≡ b') × (n ≡ n') × (p ≡ p')
-two_parts a a' b b' m m' n n' p p' is = (cc, (cc), (cc), (cc), (cc))
+use Rattle.quotes.specs.Days.{Served, Tables, and_then, curve_check, far_home, morning, near_home}
+use Rattle.quotes.specs.Orders.{served}
 
 -- what of a table no call alters: nothing, where the check passed
 pub rows_free : (a b : ℕ) (kept near : List (Row Node)) (check : Result (Unit {0}) Fault) (x : Unit {0}) → in_rows a kept ≡ in_rows b (cond (is_ok check) [] near) → check ≡ Ok x → kept ≡ []
@@ -42,64 +20,6 @@ rows_free a b kept near check x is ok = let h : kept ≡ cond (is_ok check) [] n
 
 pub bytes_free : (a b : ℕ) (kept far : List ℕ) (check : Result (Unit {0}) Fault) (x : Unit {0}) → ◌≡◌ {A = Memory Node} (in_bytes a kept) (in_bytes b (cond (is_ok check) [] far)) → check ≡ Ok x → kept ≡ []
 bytes_free a b kept far check x is ok = let h : kept ≡ cond (is_ok check) [] far = cc in h ∙ ap (λ c. cond (is_ok c) [] far) ok
-
--- the check of the split, as the test that its meaning rests on
-fits_from_check : (l r : Meaning Node) (x : Unit {0}) → split_check l r ≡ Ok x → split_fits l r ≡ true
-fits_from_check l r x ok = by_size (is_count (split_size l r)) (eqb l.last r.last) ok
-  where
-    by_size : (a b : Bool) → after_size a (cond b (Ok tt) (Err two_lasts)) ≡ Ok x → (a && b) ≡ true
-    by_size true true ok = refl
-    by_size true false ok = absurd (let z : ◌≡◌ {A = ℕ} 0 1 = cc in omega arith)
-    by_size false true ok = absurd (let z : ◌≡◌ {A = ℕ} 0 1 = cc in omega arith)
-    by_size false false ok = absurd (let z : ◌≡◌ {A = ℕ} 0 1 = cc in omega arith)
-
--- two homes that were parted still are, so that the whole has the rows of both
-both_rows : (l l' r r' : Meaning Node) → split_fits l r ≡ true → split_parts l' r' ≡ split_parts l r → (split_meaning l' r').rows ≡ l'.rows ++ r'.rows
-both_rows l l' r r' fits same = by_fit (split_fits l' r') refl
-  where
-    by_fit : (b : Bool) → split_fits l' r' ≡ b → cond b (l'.rows ++ r'.rows) [] ≡ l'.rows ++ r'.rows
-    by_fit true is = refl
-    by_fit false is =
-        let one : split_parts l' r' ≡ idle l' r' = ap (λ b. cond b (parted (length l'.rows)) (idle l' r')) is in
-        let two : split_parts l r ≡ parted (length l.rows) = ap (λ b. cond b (parted (length l.rows)) (idle l r)) fits in
-        let no' : idle l' r' ≡ parted (length l.rows) = sym one ∙ same ∙ two in
-        absurd (let z : ◌≡◌ {A = ℕ} 0 1 = cc in omega arith)
-
--- and the left one has as many keys as before
-same_left : (l l' r r' : Meaning Node) → split_fits l r ≡ true → split_parts l' r' ≡ split_parts l r → length l'.rows ≡ length l.rows
-same_left l l' r r' fits same = by_fit (split_fits l' r') refl
-  where
-    two : split_parts l r ≡ parted (length l.rows)
-    two = ap (λ b. cond b (parted (length l.rows)) (idle l r)) fits
-
-    by_fit : (b : Bool) → split_fits l' r' ≡ b → length l'.rows ≡ length l.rows
-    by_fit true is =
-        let one : split_parts l' r' ≡ parted (length l'.rows) = ap (λ b. cond b (parted (length l'.rows)) (idle l' r')) is in
-        let e : ◌≡◌ {A = Parts Node} (parted (length l'.rows)) (parted (length l.rows)) = sym one ∙ same ∙ two in
-        cc
-    by_fit false is =
-        let one : split_parts l' r' ≡ idle l' r' = ap (λ b. cond b (parted (length l'.rows)) (idle l' r')) is in
-        let no' : idle l' r' ≡ parted (length l.rows) = sym one ∙ same ∙ two in
-        absurd (let z : ◌≡◌ {A = ℕ} 0 1 = cc in omega arith)
-
--- what is made of two homes that go together
-opened_fit : (l r : Meaning Node) (x : Unit {0}) → split_check l r ≡ Ok x → split_opened l r ≡ split_meaning l r
-opened_fit l r x ok = ap (split_made l r) ok ∙ ap (λ b. record { last = l.last; rows = cond b (l.rows ++ r.rows) [] }) (sym (fits_from_check l r x ok))
-
-module _ (l l' r r' : Meaning Node) (orders : List Order) (x : Unit {0}) (ok : split_check l r ≡ Ok x) where
-  pub both_answer : (tally : Tally) → tally ≡ (day (record { home = split_meaning l r; tally = no_tally }) orders).tally → Ok tally ≡ morning_answer (split_check l r) (morning l r orders)
-  unfolding morning
-  both_answer tally is =
-      ap (λ t. Ok t) (is ∙ ap (λ m. (day (record { home = m; tally = no_tally }) orders).tally) (sym (opened_fit l r x ok)))
-      ∙ ap (λ c. morning_answer c (day (record { home = split_opened l r; tally = no_tally }) orders)) (sym ok)
-
-  pub both_served : (Same : Type 0) → split_meaning l' r' ≡ (day (record { home = split_meaning l r; tally = no_tally }) orders).home → split_parts l' r' ≡ split_parts l r → Served (split_check l r) (morning l r orders) l l' r' Same
-  unfolding morning
-  both_served Same is same =
-      let rows = sym (both_rows l l' r r' (fits_from_check l r x ok) same) ∙ ap (λ (m : Meaning Node). m.rows) (is ∙ ap (λ m. (day (record { home = m; tally = no_tally }) orders).home) (sym (opened_fit l r x ok))) in
-      subst (λ c. Served c (day (record { home = split_opened l r; tally = no_tally }) orders) l l' r' Same) (sym ok) (rows, same_left l l' r r' (fits_from_check l r x ok) same)
-
--- ---- two tables
 
 -- a table that lies wholly in its home: what the home means is what the table holds
 whole_table : {X : Type 0} (p : Bool) (xs : List X) → cond p [] xs ≡ [] → cond p xs [] ≡ xs

@@ -30,6 +30,7 @@ pub fn serve_all<H: Home<Value = Node>>(home: &mut H, orders: &[Order]) -> Tally
 
 // Serves the orders over two homes side by side, as one curve. Refuses 16 or 19 where they do not go together, and
 // then alters nothing.
+#[tactic(auto, unfolding(crate::specs::Days::morning))]
 pub fn serve_both<L: Home<Value = Node>, R: Home<Value = Node>>(
     left: &mut L,
     right: &mut R,
@@ -51,6 +52,7 @@ pub fn serve_both<L: Home<Value = Node>, R: Home<Value = Node>>(
 // Opens the curve over the two tables, rows at the near end and bytes at the far end, and serves the orders.
 // When it answers, the homes have ended and the tables hold what they meant. Refuses 16, 17 or 19 where the
 // curve cannot be opened, and then alters nothing.
+#[tactic(auto, unfolding(crate::specs::Days::curve_check, crate::specs::Days::morning))]
 pub fn run_morning(near: &mut [Row<Node>], far: &mut [u8], orders: &[Order]) -> Result<Tally, Fault>
     ensures answer { let whole = morning (near_home near.old) (far_home far.old) orders.now in
         result ≡ morning_answer (curve_check near.old far.old) whole }

@@ -9,6 +9,7 @@ use kinds::Node;
 
 // Quotes a new rate: holds the node, and writes it with its day at the first timestamp past its lease, which is
 // answered. Refuses as hold does.
+#[tactic(auto, unfolding(crate::specs::Orders::quoted, home::specs::Meaning::changed, home::specs::Meaning::looked))]
 pub fn quote<H: Home<Value = Node>>(
     home: &mut H,
     place: u32,
@@ -27,6 +28,7 @@ pub fn quote<H: Home<Value = Node>>(
 }
 
 // Begins to quote and gives up: holds the node and frees it. Answers where its lease ends.
+#[tactic(auto, unfolding(crate::specs::Orders::withdrawn, home::specs::Meaning::changed))]
 pub fn withdraw<H: Home<Value = Node>>(home: &mut H, place: u32, key: u32) -> Result<u64, Fault>
     ensures answer { result ≡ answer end_of place key (withdrawn (H.Home.meaning home.old) key place) }
     ensures after { let m = H.Home.meaning home.old in H.Home.meaning home.new ≡ after m key (withdrawn m key place) }
@@ -38,6 +40,7 @@ pub fn withdraw<H: Home<Value = Node>>(home: &mut H, place: u32, key: u32) -> Re
 }
 
 // Makes the standing quote last until `t`, and answers where its lease then ends.
+#[tactic(auto, unfolding(crate::specs::Orders::kept, home::specs::Meaning::changed, home::specs::Meaning::looked))]
 pub fn keep<H: Home<Value = Node>>(home: &mut H, key: u32, t: u64) -> Result<u64, Fault>
     ensures answer { result ≡ answer end_of 0 key (kept (H.Home.meaning home.old) key t) }
     ensures after { let m = H.Home.meaning home.old in H.Home.meaning home.new ≡ after m key (kept m key t) }
