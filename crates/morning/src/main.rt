@@ -2,9 +2,9 @@
 #![tactic(auto)]
 
 use byte_home::{BYTE_LAST, ByteHome};
-use home::{Fault, Home, Row};
+use home::{Fault, Home, Refusal, Row};
 use kinds::Node;
-use quotes::{MorningText, Unread, read_text, run_morning};
+use quotes::{MorningText, Tally, Unread, read_text, run_morning};
 use row_home::RowHome;
 use split_home::SplitHome;
 use std::alloc::{AllocError, Global};
@@ -42,7 +42,8 @@ fn serve(rt: &HostRuntime, morning: &mut MorningText) -> anyhow::Result<()> {
     match run_morning(&mut morning.near, &mut morning.far, &morning.orders) {
         Ok(tally) => {
             let after = rows_of(rt.alloc(), &mut morning.near, &mut morning.far)?;
-            print!(rt; "before\n{before}after\n{after}{tally}")?;
+            let counts = Counts(tally);
+            print!(rt; "before\n{before}after\n{after}{counts}")?;
         }
         Err(Fault { refusal, .. }) => {
             let number = refusal.number();
@@ -87,5 +88,33 @@ impl fmt::Display for Quoted {
             row.rts,
             row.holder
         )
+    }
+}
+
+// The counts of a morning: a line for what was done, and one for each reason for which a home refused anything; it
+// gives no others.
+#[derive(Clone, Copy)]
+struct Counts(Tally);
+
+impl fmt::Display for Counts {
+    fn fmt<W: fmt::Write>(&self, f: &mut fmt::Formatter<W>) -> fmt::Result {
+        let Counts(tally) = self;
+        writeln!(f, "accepted {:>4}", tally.accepted)?;
+        for refusal in [
+            Refusal::NoKey,
+            Refusal::Held,
+            Refusal::TimeSpent,
+            Refusal::NoPlace,
+            Refusal::MovedOn,
+            Refusal::NotYours,
+            Refusal::TooEarly,
+        ] {
+            let number = refusal.number();
+            let count = tally.refused[usize::from(number)];
+            if count > 0 {
+                writeln!(f, "refused  {count:>4}  {number} {refusal}")?;
+            }
+        }
+        Ok(())
     }
 }

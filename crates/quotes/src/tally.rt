@@ -2,8 +2,7 @@
 ghost use Rattle.std.specs.Prelude.{◌≡◌};
 ghost use Rattle.quotes.specs.Days.{no_tally, tallied};
 
-use home::{Fault, Refusal};
-use std::fmt;
+use home::Fault;
 
 // The counts of a morning; `refused` goes by the number of the refusal, 1 to 19, and is no map, so that a tally is
 // copied and allocates nothing.
@@ -35,28 +34,5 @@ impl Tally {
                 self.refused[number] = self.refused[number].saturating_add(1);
             }
         }
-    }
-}
-
-// A line for what was done, and one for each reason for which a home refused anything: it gives no others.
-impl fmt::Display for Tally {
-    fn fmt<W: fmt::Write>(&self, f: &mut fmt::Formatter<W>) -> fmt::Result {
-        writeln!(f, "accepted {:>4}", self.accepted)?;
-        for refusal in [
-            Refusal::NoKey,
-            Refusal::Held,
-            Refusal::TimeSpent,
-            Refusal::NoPlace,
-            Refusal::MovedOn,
-            Refusal::NotYours,
-            Refusal::TooEarly,
-        ] {
-            let number = refusal.number();
-            let count = self.refused[usize::from(number)];
-            if count > 0 {
-                writeln!(f, "refused  {count:>4}  {number} {refusal}")?;
-            }
-        }
-        Ok(())
     }
 }
