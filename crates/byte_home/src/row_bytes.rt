@@ -47,7 +47,7 @@ pub(crate) fn split_row(bytes: &[u8]) -> Option<Row<u64>>
     })
 }
 
-// Puts a row's bytes together.
+// Puts a row's bytes together: by `as`, since both callers know that the numbers fit.
 pub(crate) fn join_row(row: Row<u64>) -> [u8; ROW_BYTES]
     requires { has_room row ≡ true }
     ensures { result ≡ row_bytes row }

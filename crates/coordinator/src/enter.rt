@@ -56,7 +56,8 @@ pub(crate) struct Seat {
     ghost within: { at < 64 },
 }
 
-// The seat of a call that may be made in the state of its place. Refuses 14, 4, and 8 or 9.
+// The seat of a call that may be made in the state of its place. Refuses 14, 4, and 8 or 9, with the place and key that
+// the caller gave: so they come beside the tables.
 #[tactic(auto, unfolding(crate::specs::Tables::entered))]
 pub(crate) fn enter(
     code: u8,
@@ -119,7 +120,7 @@ fn admit(code: u8, p: Place, place: u32, key: u32) -> Result<Place, Fault>
 
 impl Seat {
     // The fault of a call that is refused after its state was tested: 2 and 5 lose the transaction, others alter
-    // nothing.
+    // nothing. Called in a `match` and not in `map_err`, after which a proof does not know the places.
     pub(crate) fn turn_away(self, places: &mut [Place], fault: Fault) -> Fault
         requires { 64 ≤ length places.old }
         ensures answer { result ≡ fault }

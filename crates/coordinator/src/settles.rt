@@ -8,8 +8,8 @@ use crate::enter::{FREE, SETTLE, WINNING, enter};
 use crate::tables::{Entry, Place};
 use home::{Fault, Home};
 
-// Settles the entry at the cursor, and answers how many are left and whether the place is free: it is once none was
-// left to settle. Refuses 14, 4, 9, 1, 6, 3, 7.
+// Settles the entry at the cursor, and answers together how many are left and whether the place is free: it is once
+// none was left to settle. Refuses 14, 4, 9, 1, 6, 3, 7.
 #[tactic(auto, unfolding(crate::specs::Calls::settle_call))]
 pub fn settle<H: Home>(
     home: &mut H,

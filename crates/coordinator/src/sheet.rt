@@ -13,7 +13,7 @@ impl Seat {
         ensures length { length result.now ≡ used_of self.place }
     {
         let start = 16 * self.at;
-        &entries[start..start + self.place.used() as usize]
+        &entries[start..start + usize::from(self.place.used())]
     }
 
     // The entry at the cursor of the place, if one is left.
@@ -46,7 +46,7 @@ pub(crate) fn find<V: Copy>(sheet: &[Entry<V>], key: u32) -> Option<(usize, Entr
     Some((number, sheet[number]))
 }
 
-// The number of the first entry of a key: apart, so that the proof has the library's search by itself.
+// The number of the first entry of a key. A function of its own, since `find` is shown from this fact alone.
 fn first_of<V: Copy>(sheet: &[Entry<V>], key: u32) -> Option<usize>
     ensures { result ≡ position (λ entry. entry.key == key) sheet.now }
 {

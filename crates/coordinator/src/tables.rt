@@ -32,8 +32,9 @@ impl Place {
     }
 }
 
-// What a transaction knows of one key. The sheet of place p is the sixteen entries from 16 × (p − 1) on. All lies side
-// by side, as in the caller's table: an entry has a value whether it is written or not.
+// What a transaction knows of one key. The sheet of place p is the sixteen entries from 16 × (p − 1) on. All lies
+// side by side, as in the caller's table: an entry has a value whether it is written or not, and is made of a row or
+// of a lease field by field, since `..` cannot change a type.
 #[derive(Clone, Copy, PartialEq, Eq, Debug)]
 pub struct Entry<V> {
     pub key: u32,

@@ -36,7 +36,7 @@ impl Refusal {
         self as u8
     }
 
-    // The word that stands for the refusal in print.
+    // The word that stands for the refusal in print. This cannot fail, which printing can.
     pub fn word(self) -> &'static str
         ensures { result.now ≡ word_of self }
     {

@@ -8,11 +8,12 @@ ghost use Rattle.home.specs.Memory.{Memory};
 use crate::fault::Fault;
 use crate::row::{Cause, Change, Lease, Row};
 
-// A table of rows with leases, whatever memory it lies in. A key is a row's number, from 0 on; a place is
-// the number, 1 to 64, of one who may hold rows to write them. A refused call alters nothing.
+// A table of rows with leases, whatever memory it lies in. A key is a row's number, from 0 on; a place is the number,
+// 1 to 64, of one who may hold rows to write them. A refused call alters nothing.
 //
-// A make says where its rows are and how one is changed (`fetch` and `apply`); the five calls are the same for all.
-// Only `apply` is each make's own: one for all would need a method that stores any row, open to every caller.
+// A make says how many rows it has, its last timestamp, where a row is and how one is changed (`count`, `last`,
+// `fetch`, `apply`); the five calls are the same for all, and take the fields of a change, so that their callers make
+// none. An `apply` for all would need a method that stores any row, open to every caller.
 pub trait Home {
     type Value: Copy;
 

@@ -25,7 +25,7 @@ pub struct Lease {
     pub rts: u64,
 }
 
-// Why a row turns a change away, with the detail that the fault will have.
+// Why something is refused, with the detail that the fault will have; place, key and layer come with the call.
 #[derive(Clone, Copy, PartialEq, Eq, Debug)]
 pub struct Cause {
     pub refusal: Refusal,
@@ -75,10 +75,8 @@ impl<V: Copy> Change<V> {
         ensures { result ≡ place_of self.now }
     {
         match *self {
-            Change::Hold { place } => place,
             Change::Renew { .. } => 0,
-            Change::Put { place, .. } => place,
-            Change::Free { place } => place,
+            Change::Hold { place } | Change::Put { place, .. } | Change::Free { place } => place,
         }
     }
 
@@ -98,14 +96,14 @@ impl<V: Copy> Change<V> {
 }
 
 impl Cause {
-    // A cause with nothing to add.
+    // A cause with nothing to add: by a name, and no `From`, since that is what it says.
     pub fn plain(refusal: Refusal) -> Cause
         ensures { result ≡ record { refusal = refusal; detail = 0 } }
     {
         Cause { refusal, detail: 0 }
     }
 
-    // The fault of the home's call that was given this place and key.
+    // The fault of the home's call, or of its opening, that was given this place and key.
     pub fn at(self, place: u32, key: u32) -> Fault
         ensures { result ≡ fault_at place key self }
     {
@@ -143,7 +141,7 @@ impl<V: Copy> Row<V> {
         }
     }
 
-    // Makes the change, and answers the lease that then stands. A refusal leaves the row as it was.
+    // Makes the change, by its fields, and answers the lease that then stands. A refusal leaves the row as it was.
     pub fn amend(&mut self, change: Change<V>, last: u64) -> Result<Lease, Cause>
         ensures answer { result ≡ answer_of (amended last change self.old) }
         ensures row { self.new ≡ row_after self.old (amended last change self.old) }
@@ -217,6 +215,7 @@ impl<V: Copy> Row<V> {
         self.holder = 0;
         Ok(())
     }
+
     // Refuses 2 where somebody holds the row.
     fn check_free(&self) -> Result<(), Cause>
         ensures { result ≡ (if nat_eq self.now.holder 0 then Ok tt else Err (record { refusal = Held; detail = self.now.holder })) }

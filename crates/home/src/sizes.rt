@@ -11,7 +11,7 @@ pub const MAX_COUNT: usize = 65_535;
 // The latest last timestamp that a home has.
 pub const MAX_LAST: u64 = 9_223_372_036_854_775_807;
 
-// Refuses 16 unless there are 1 to 65,535 keys and what else the make asks of the size holds.
+// Refuses 16 unless there are 1 to 65,535 keys and the size fits, by a test that each make has of its own.
 pub fn check_size(count: usize, fits: bool) -> Result<(), Fault>
     ensures { result ≡ size_checked (is_count count && fits) }
 {

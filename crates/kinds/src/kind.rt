@@ -17,7 +17,7 @@ pub trait Kind: Copy {
     // What a word is read as by one who knows that it has a value.
     ghost reading: { ℕ → Self };
 
-    // The code of the kind.
+    // The code of the kind, for callers that want no constant.
     fn kind_code() -> u8
         ensures { result ≡ CODE }
     {

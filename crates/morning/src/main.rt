@@ -91,8 +91,7 @@ impl fmt::Display for Quoted {
     }
 }
 
-// The counts of a morning: a line for what was done, and one for each reason for which a home refused anything; it
-// gives no others.
+// The counts of a morning: a line for what was done, and one for each reason for which a home can refuse anything.
 #[derive(Clone, Copy)]
 struct Counts(Tally);
 

@@ -20,7 +20,7 @@ pub enum Line {
     Order(Order),
 }
 
-// Reads one line; none where it is not one.
+// Reads one line; none where it is not one. Nothing more is known of why, so it is no `FromStr`.
 pub fn read_line(line: &str) -> Option<Line> {
     let mut words = line.split_whitespace();
     let read = match words.next()? {

@@ -35,8 +35,8 @@ impl<'a, V: Copy> Home for RowHome<'a, V> {
         }
     }
 
-    // The trait's clauses, written out: the check cannot yet give them to a method with an argument whose type names
-    // the value type.
+    // The trait's clauses, written out: the check cannot yet give them to a method that takes a change of the value
+    // type.
     #[tactic(auto, unfolding(home::specs::Meaning::changed))]
     fn apply(&mut self, key: u32, change: Change<V>) -> Result<Lease, Cause>
         ensures answer { result ≡ answer_of (changed (⟦<Self as Home>⟧.meaning self.old) key change) }

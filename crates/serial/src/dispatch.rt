@@ -31,8 +31,7 @@ pub fn perform<H: Home>(
 }
 
 // The call by its own rule: apart from `perform`, so that the law is shown once and not for each call. Closures make
-// the answers, since a constructor that names the value type in its result alone is not lent to `map` yet; those of
-// pairs read them by number, since a pattern would be laid out over four lines.
+// the answers, since a constructor that names the value type in its result alone is not lent to `map` yet.
 #[tactic(auto, unfolding(crate::specs::Events::stepped))]
 fn make<H: Home>(
     home: &mut H,
