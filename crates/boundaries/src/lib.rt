@@ -1,4 +1,4 @@
-// Examples at every boundary of values, homes and openings. There is nothing here but tests.
+// Examples at every boundary of values, homes and openings, and a transaction over nodes. There is nothing here but tests.
 #![tactic(auto)]
 
 #[cfg(test)]
@@ -7,5 +7,7 @@ mod calls;
 mod helpers;
 #[cfg(test)]
 mod openings;
+#[cfg(test)]
+mod transactions;
 #[cfg(test)]
 mod values;
