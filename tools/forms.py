@@ -27,21 +27,30 @@ def sources():
         yield path, open(path).read().split("\n")
 
 
-def by_line(pattern):
+def every_line():
     for path, lines in sources():
         for at, line in enumerate(lines, 1):
-            if re.search(pattern, line) and not line.lstrip().startswith("//") and "ghost" not in line.split("{")[0]:
-                yield f"{path}:{at}: {line.strip()}"
+            yield f"{path}:{at}", line
+
+
+def matching(pattern):
+    for place, line in every_line():
+        m = re.match(pattern, line)
+        if m:
+            yield place, m
+
+
+def by_line(pattern):
+    for place, line in every_line():
+        if re.search(pattern, line) and not line.lstrip().startswith("//") and "ghost" not in line.split("{")[0]:
+            yield f"{place}: {line.strip()}"
 
 
 def twins():
     """Functions of one name in several files."""
     where = collections.defaultdict(list)
-    for path, lines in sources():
-        for at, line in enumerate(lines, 1):
-            m = re.match(r"\s*(?:pub(?:\(crate\))? )?fn (\w+)", line)
-            if m:
-                where[m.group(1)].append(f"{path}:{at}")
+    for place, m in matching(r"\s*(?:pub(?:\(crate\))? )?fn (\w+)"):
+        where[m.group(1)].append(place)
     for name, places in sorted(where.items()):
         if len(places) > 1:
             yield f"{name}: {', '.join(places)}"
@@ -50,11 +59,8 @@ def twins():
 def facts():
     """Clauses that stand on three functions or more, in one crate."""
     seen = collections.defaultdict(list)
-    for path, lines in sources():
-        for at, line in enumerate(lines, 1):
-            m = re.match(r"\s*(requires|ensures)( \w+)? (\{.*\})", line)
-            if m:
-                seen[path.split("/")[1], m.group(1), m.group(3)].append(f"{path}:{at}")
+    for place, m in matching(r"\s*(requires|ensures)( \w+)? (\{.*\})"):
+        seen[place.split("/")[1], m.group(1), m.group(3)].append(place)
     for (crate, kind, text), places in sorted(seen.items()):
         if len(places) > 2:
             yield f"{crate}: {len(places)} × {kind} {text}"
