@@ -8,7 +8,7 @@ use quotes::{MorningText, Tally, Unread, read_text, run_morning};
 use row_home::RowHome;
 use split_home::SplitHome;
 use std::alloc::{AllocError, Global};
-use std::fmt::{self, Write};
+use std::fmt;
 use std::io::Read;
 
 // The most bytes of input that are read.
@@ -41,31 +41,62 @@ fn serve(rt: &HostRuntime, morning: &mut MorningText) -> anyhow::Result<()> {
     let before = rows_of(rt.alloc(), &mut morning.near, &mut morning.far)?;
     match run_morning(&mut morning.near, &mut morning.far, &morning.orders) {
         Ok(tally) => {
-            let after = rows_of(rt.alloc(), &mut morning.near, &mut morning.far)?;
-            let counts = Counts(tally);
-            print!(rt; "before\n{before}after\n{after}{counts}")?;
+            let mut left = RowHome::make(&mut morning.near, BYTE_LAST);
+            let mut right = ByteHome::<Node>::make(&mut morning.far);
+            let home = SplitHome::make(&mut left, &mut right);
+            print_morning(rt, before.as_str(), &home, tally)
         }
         Err(Fault { refusal, .. }) => {
             let number = refusal.number();
             println!(rt; "the curve cannot be opened: {number} {refusal}")?;
+            Ok(())
         }
     }
-    Ok(())
 }
 
-// The rows of the curve, a line each.
+// The rows of the curve as they stand, as a text to keep while the orders alter them.
 fn rows_of(heap: Global, near: &mut [Row<Node>], far: &mut [u8]) -> Result<String, AllocError> {
     let mut left = RowHome::make(near, BYTE_LAST);
     let mut right = ByteHome::<Node>::make(far);
     let home = SplitHome::make(&mut left, &mut right);
-    let mut lines = String::new(heap);
-    // By key, since a home has no slice of rows to go through.
-    for key in 0..home.count() {
-        if let Ok(row) = home.look(key) {
-            writeln!(lines, "{}", Quoted { key, row })?;
+    text_of(heap, &home)
+}
+
+// A function of its own, and for any home: the checker lends a home to `Rows` only where it comes as a parameter.
+fn text_of<H: Home<Value = Node>>(heap: Global, home: &H) -> Result<String, AllocError> {
+    let rows = Rows(home);
+    format!(in heap; "{rows}")
+}
+
+// Prints the rows before and after the orders, and the counts. The rows after them are printed from the home: a text of
+// them would take as much memory again.
+fn print_morning<H: Home<Value = Node>>(
+    rt: &HostRuntime,
+    before: &str,
+    home: &H,
+    tally: Tally,
+) -> anyhow::Result<()> {
+    let after = Rows(home);
+    let counts = Counts(tally);
+    print!(rt; "before\n{before}after\n{after}{counts}")?;
+    Ok(())
+}
+
+// The rows of a curve, a line each.
+#[derive(Clone, Copy)]
+struct Rows<'a, H>(&'a H);
+
+impl<'a, H: Home<Value = Node>> fmt::Display for Rows<'a, H> {
+    fn fmt<W: fmt::Write>(&self, f: &mut fmt::Formatter<W>) -> fmt::Result {
+        let Rows(home) = self;
+        // By key, since a home has no slice of rows to go through.
+        for key in 0..home.count() {
+            if let Ok(row) = home.look(key) {
+                writeln!(f, "{}", Quoted { key, row })?;
+            }
         }
+        Ok(())
     }
-    Ok(lines)
 }
 
 // A row of the curve under its key.
