@@ -5,7 +5,7 @@ use crate::order::Order;
 use byte_home::pack_row;
 use home::Row;
 use kinds::Node;
-use std::alloc::{AllocError, Global};
+use std::alloc::{AllocError, AllocFailed, Global};
 use std::str::{FromStr, SplitWhitespace};
 use thiserror::Error;
 
@@ -65,8 +65,21 @@ pub struct MorningText {
 pub enum Unread {
     #[error("line {0} is no line of a morning")]
     BadLine(usize),
+    // It keeps no cause, since callers name it so: the conversions are by hand.
     #[error("no memory")]
-    NoMemory(#[from(alloc)] AllocError),
+    NoMemory,
+}
+
+impl From<AllocError> for Unread {
+    fn from(_: AllocError) -> Unread {
+        Unread::NoMemory
+    }
+}
+
+impl<T: Drop> From<AllocFailed<T>> for Unread {
+    fn from(_: AllocFailed<T>) -> Unread {
+        Unread::NoMemory
+    }
 }
 
 // Reads the whole text, a line each.
@@ -120,4 +133,42 @@ fn node(words: &mut SplitWhitespace) -> Option<Node> {
     let day = number(words)?;
     let rate = number(words)?;
     Node::new(day, rate)
+}
+
+#[cfg(test)]
+mod tests {
+    use super::*;
+    use std::test::Fail;
+
+    // What `morning` prints of a text that it cannot read: the first line that is none, counted from 1.
+    #[test]
+    fn the_text_of_a_bad_line(rt: HostRuntime) -> Result<(), Fail> {
+        for (text, want) in [
+            (
+                "near 1 25000\nnear 0 25000\n",
+                "line 2 is no line of a morning",
+            ),
+            (
+                "quote 1 0 25050 1\nkeep 1\n",
+                "line 1 is no line of a morning",
+            ),
+            ("far 65536 -1\n\n", "line 2 is no line of a morning"),
+        ] {
+            let unread = read_text(rt.alloc(), text)
+                .err()
+                .ok_or("a bad line is read")?;
+            let told = format!(in rt.alloc(); "{unread}")?;
+            assert_eq!(rt; told.as_str(), want);
+        }
+        Ok(())
+    }
+
+    // Memory that cannot be had has a text of its own.
+    #[test]
+    fn the_text_of_no_memory(rt: HostRuntime) -> Result<(), Fail> {
+        let unread = Unread::NoMemory;
+        let told = format!(in rt.alloc(); "{unread}")?;
+        assert_eq!(rt; told.as_str(), "no memory");
+        Ok(())
+    }
 }
