@@ -21,7 +21,8 @@ impl Node {
     pub fn new(day: u32, rate: i32) -> Option<Node>
         ensures { result ≡ node_of day rate }
     {
-        let day_less_one = u16::try_from(day.checked_sub(1)?).ok()?;
+        // Of day 0 the difference wraps, past what sixteen bits hold.
+        let day_less_one = u16::try_from(day.wrapping_sub(1)).ok()?;
         Some(Node { day_less_one, rate })
     }
 
