@@ -36,7 +36,8 @@ impl<'a, 'b, L: Home, R: Home<Value = L::Value>> Home for SplitHome<'a, 'b, L, R
     }
 
     // The trait's clauses, written out: the check cannot yet give them to a method that takes a change of the value
-    // type.
+    // type. Inlined, since a change with a large value would otherwise be copied at each split on its way down.
+    #[inline(always)]
     #[tactic(auto, unfolding(home::specs::Meaning::changed))]
     fn apply(&mut self, key: u32, change: Change<L::Value>) -> Result<Lease, Cause>
         ensures answer { result ≡ answer_of (changed (⟦<Self as Home>⟧.meaning self.old) key change) }
