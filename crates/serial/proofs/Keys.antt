@@ -111,6 +111,11 @@ module _ {V : Type 0} where
   found_among k [] = refl
   found_among k (a ∷ es) = grind (arith, nat_tests, found_among k es)
 
+  -- what is found under a key has that key
+  pub found_key : (k : ℕ) (es : List (Entry V)) (e : Entry V) → found k es ≡ Some e → e.key ≡ k
+  found_key k [] e is = cc
+  found_key k (a ∷ es) e is = grind (arith, nat_tests, found_key k es e)
+
   -- after a push the new entry is found under its key, the old ones under theirs
   pub found_pushed : (es : List (Entry V)) (e : Entry V) → found e.key es ≡ None → found e.key (es ++ (e ∷ [])) ≡ Some e
   found_pushed [] e none = grind (arith, nat_tests)

@@ -30,7 +30,7 @@ by_outcome P (grants row) no' yes' = yes' row refl
 module _ {V : Type 0} where
   -- ---- what a look finds, and faults that lose nothing
 
-  looked_row : (m : Meaning V) (key : ℕ) (row : Row V) → looked m key ≡ Ok row → slice_get m.rows key ≡ Some row
+  pub looked_row : (m : Meaning V) (key : ℕ) (row : Row V) → looked m key ≡ Ok row → slice_get m.rows key ≡ Some row
   unfolding looked
   looked_row m key row is = grind (arith, slice_get_cases m.rows key)
 
