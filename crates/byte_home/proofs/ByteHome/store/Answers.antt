@@ -2,7 +2,7 @@ use Rattle.std.proofs.Common.{◌≡◌, ◌+◌, ◌-◌, ◌*◌, ◌<◌, tru
 use borrow.Rule.Slice.PartMut.{put_mid}
 use Rattle.home.specs.Meaning.{fair, is_sound}
 use Rattle.home.specs.Opening.{table_meaning}
-use Rattle.byte_home.specs.Bytes.{has_room, word_rows}
+use Rattle.byte_home.specs.Bytes.{has_room, row_bytes, word_rows}
 use Rattle.byte_home.proofs.ByteTables.{fair_room, fair_stored, read_rows_set, stored_rows}
 use Rattle.byte_home.proofs.ByteHome.store.Given as given
 use Rattle.byte_home.proofs.ByteHome.store.Goals as goal
@@ -14,7 +14,8 @@ wrote g c =
     let words = c.words_of.result in
     let small : words.value < 18446744073709551616 = search rules in
     let room : has_room words ≡ true = ap has_room c.words_of.ensures.words ∙ fair_room c.args.row c.requires.fair in
-    stored_rows c.args.self.now.bytes.now c.copy_from_slice.new.self c.args.key _ words c.requires.within (omega arith) (c.copy_from_slice.ensures.after ∙ c.join_row-new.ensures) small room
+    let bytes : c.copy_from_slice.new.self ≡ row_bytes words = search rules in
+    stored_rows c.args.self.now.bytes.now c.copy_from_slice.new.self c.args.key _ words c.requires.within (omega arith) bytes small room
 
 pub invariant_of-self : goal.invariant_of-self
 invariant_of-self g c =
